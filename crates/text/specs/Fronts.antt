@@ -8,7 +8,7 @@ use lib.Dec.{eqb, leb}
 use lib.ListN.{length, take, drop}
 use Rattle.std.specs.declared.option.Option.{Option}
 use Rattle.std.specs.declared.option.Option.the-variants.{Some, None}
-use Rattle.text.specs.Words.{limit, blank, digit, natural, Token, tokensOf}
+use Rattle.text.specs.Words.{limit, blank, digit, natural, Token, tokenOf, tokensOf}
 use Rattle.text.specs.Words.Token.{number, word}
 use Rattle.text.specs.declared.scan.Scan.{Scan}
 use Rattle.text.specs.declared.scan.Scan.the-variants.{Number, Word, LineEnd, TextEnd}
@@ -121,3 +121,7 @@ pub record Natural (bytes : List ℕ) (from n next : ℕ) : Type 0 where
 abbrev pub Naturals : List ℕ → ℕ → Option (ℕ × ℕ) → Type 0
 Naturals bytes from None = natural (wordOf (drop from bytes)) ≡ None
 Naturals bytes from (Some p) = Natural bytes from (p .0) (p .1)
+
+-- the word at `at` is no number
+abbrev pub Other : List ℕ → ℕ → Type 0
+Other bytes at = tokenOf (wordOf (drop at bytes)) ≡ word (wordOf (drop at bytes))

@@ -1,11 +1,14 @@
 //! Tokens and lines of a byte slice, from a position on. A position behind the end means the end.
 ghost use mathlib.Core.Path.{_≡_};
-ghost use mathlib.Core.Bool.{true, false};
-ghost use Prim.Native.Nat.{ℕ, _+_, _<_, _≤_};
+ghost use mathlib.Core.Bool.{false};
+ghost use Prim.Native.Nat.{_<_, _≤_};
 ghost use lib.ListN.{length, drop, getD};
 ghost use Rattle.text.specs.Words.{limit, blank, digit};
-ghost use Rattle.text.specs.Fronts.{ends, unblanked, behindWord, atEnd, behindLine, Told, Passed, Digits, Naturals};
+ghost use Rattle.text.specs.Fronts.{ends, unblanked, behindWord, atEnd, Told, Passed, Digits, Naturals, Other};
 use crate::scan::Scan;
+
+// No number is beyond this in size.
+const LIMIT: u64 = 2147483647;
 
 fn is_blank(b: u8) -> bool
     ensures { λ r. ⌜ r ≡ blank b ⌝ }
@@ -43,7 +46,11 @@ fn skip_blanks(bytes: &[u8], from: usize) -> usize
 fn at_end(bytes: &[u8], at: usize) -> bool
     ensures { λ r. ⌜ r ≡ atEnd (drop at (now (bytes .entry))) ⌝ }
 {
-    if at < bytes.len() { is_end(bytes[at]) } else { true }
+    if at < bytes.len() {
+        is_end(bytes[at])
+    } else {
+        true
+    }
 }
 
 // Where the word at `at` ends.
@@ -67,11 +74,15 @@ fn digits(bytes: &[u8], from: usize, first: u64) -> Option<(u64, usize)>
 {
     let mut size = first;
     let mut i = from;
-    while i < bytes.len() && is_digit(bytes[i]) && size <= 2147483647 {
+    while i < bytes.len() && is_digit(bytes[i]) && size <= LIMIT {
         size = size * 10 + (bytes[i] - b'0') as u64;
         i += 1;
     }
-    if size <= 2147483647 && at_end(bytes, i) { Some((size, i)) } else { None }
+    if size <= LIMIT && at_end(bytes, i) {
+        Some((size, i))
+    } else {
+        None
+    }
 }
 
 // The word at `at` as a number without a sign.
@@ -89,11 +100,17 @@ fn natural(bytes: &[u8], at: usize) -> Option<(u64, usize)>
     let Some((n, next)) = digits(bytes, at + 1, (b - b'0') as u64) else {
         return None;
     };
-    if b == b'0' && next > at + 1 { None } else { Some((n, next)) }
+    if b == b'0' && next > at + 1 {
+        None
+    } else {
+        Some((n, next))
+    }
 }
 
 // The word at `at`, which is no number.
 fn other_word(bytes: &[u8], at: usize) -> Scan
+    requires { ⌜ at < length (now bytes) ⌝ ∗ ⌜ ends (getD (now bytes) at 0) ≡ false ⌝ ∗ ⌜ Other (now bytes) at ⌝ }
+    ensures { λ r. ⌜ Told (now (bytes .entry)) at r ⌝ }
 {
     Scan::Word(at, skip_word(bytes, at))
 }
@@ -105,7 +122,11 @@ fn word(bytes: &[u8], at: usize) -> Scan
 {
     match bytes[at] as char {
         '-' => match natural(bytes, at + 1) {
-            Some((n, next)) => if n > 0 { Scan::Number(-(n as i32), next) } else { other_word(bytes, at) },
+            Some((n, next)) => if n > 0 {
+                Scan::Number(-(n as i32), next)
+            } else {
+                other_word(bytes, at)
+            },
             None => other_word(bytes, at),
         },
         _ => match natural(bytes, at) {

@@ -1,0 +1,5 @@
+pub mod Clauses
+pub mod Spans
+pub mod Rows
+pub mod Reading
+pub mod Cursors

@@ -1,0 +1,2 @@
+//! Tables over lent memory.
+pub mod fill;
