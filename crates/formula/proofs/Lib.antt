@@ -1,1 +1,3 @@
+pub mod ClauseSteps
+pub mod HeaderWords
 pub mod LineRows

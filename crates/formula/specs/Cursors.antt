@@ -46,6 +46,7 @@ PassedOver bytes at None = (n : ℕ) → rowsAt bytes at n ≡ record { line = n
 pub record RowAt (bytes : List ℕ) (from before at line : ℕ) : Type 0 where
   pub rows : rowsAt bytes from before ≡ record { line = line; tokens = tokensLeft (drop at bytes) } ∷ rowsBehind line (linesOf (behindLine (drop at bytes)))
   pub low : line ≤ at + 1
+  pub after : from ≤ at
   pub inside : at < length bytes
 
 abbrev pub Sought : List ℕ → ℕ → ℕ → Option (ℕ × ℕ) → Type 0

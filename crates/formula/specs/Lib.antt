@@ -3,3 +3,4 @@ pub mod Spans
 pub mod Rows
 pub mod Reading
 pub mod Cursors
+pub mod Laws

@@ -1,6 +1,7 @@
 //! One clause of a formula file: its literals, then `0`.
 ghost use mathlib.Core.Path.{_≡_};
 ghost use Prim.Native.Nat.{ℕ, _≤_, _<_};
+ghost use lib.IntN.{pos};
 ghost use lib.ListN.{length, drop};
 ghost use Rattle.formula.specs.Clauses.{hasVariable};
 ghost use Rattle.formula.specs.Reading.{offence};
@@ -21,11 +22,10 @@ pub(crate) enum Next {
     End,
 }
 
-// Whether the variable of `l` stands among the literals.
-fn has_variable(literals: &[i32], l: i32) -> bool
-    ensures { λ r. ⌜ r ≡ hasVariable l (now (literals .entry)) ⌝ }
+// Whether the variable stands among the literals, in either sign.
+fn has_variable(literals: &[i32], variable: u32) -> bool
+    ensures { λ r. ⌜ r ≡ hasVariable (pos variable) (now (literals .entry)) ⌝ }
 {
-    let variable = l.unsigned_abs();
     for k in literals {
         if k.unsigned_abs() == variable {
             return true;
@@ -38,10 +38,11 @@ fn has_variable(literals: &[i32], l: i32) -> bool
 fn find_offence(literals: &[i32], l: i32, variables: usize, surplus: bool) -> Option<Fault>
     ensures { λ r. ⌜ r ≡ offence variables surplus (now (literals .entry)) l ⌝ }
 {
-    if l.unsigned_abs() as usize > variables {
+    let variable = l.unsigned_abs();
+    if variable as usize > variables {
         return Some(Fault::VariableAbove);
     }
-    if has_variable(literals, l) {
+    if has_variable(literals, variable) {
         return Some(Fault::VariableTwice);
     }
     if literals.len() >= 64 {
@@ -79,10 +80,10 @@ fn read_clause(bytes: &[u8], from: usize, variables: usize, surplus: bool, out: 
         if l == 0 {
             break;
         }
-        if let Some(fault) = find_offence(&out[0..n], l, variables, surplus) {
-            return Err(fault);
+        match find_offence(&out[0..n], l, variables, surplus) {
+            Some(fault) => return Err(fault),
+            None => out[n] = l,
         }
-        out[n] = l;
         n += 1;
     }
     match close(bytes, at, surplus) {

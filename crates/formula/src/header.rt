@@ -1,8 +1,9 @@
 //! The header of a formula file, `p cnf V o`.
 ghost use mathlib.Core.Path.{_≡_};
-ghost use Prim.Native.Nat.{ℕ, _≤_, _<_};
+ghost use Prim.Native.Nat.{ℕ, _+_, _≤_, _<_};
 ghost use lib.Chars.{codes};
-ghost use lib.ListN.{length, drop};
+ghost use lib.ListN.{length, take, drop};
+ghost use Rattle.formula.specs.Reading.{sameBytes};
 ghost use Rattle.formula.specs.Cursors.{Keyword, Counted, HeaderAt};
 use crate::lines::line_end;
 use text::scan::Scan;
@@ -29,6 +30,20 @@ fn letter_p(bytes: &[u8], from: usize) -> Option<usize>
     }
 }
 
+// Whether the bytes from `at` on are `cnf`.
+fn is_cnf(bytes: &[u8], at: usize) -> bool
+    requires { ⌜ at + 3 ≤ length (now bytes) ⌝ }
+    ensures { λ r. ⌜ r ≡ sameBytes (codes "cnf") (take 3 (drop at (now (bytes .entry)))) ⌝ }
+{
+    if bytes[at] != b'c' {
+        return false;
+    }
+    if bytes[at + 1] != b'n' {
+        return false;
+    }
+    bytes[at + 2] == b'f'
+}
+
 // Where the text goes on behind the word `cnf`, if that is the next token.
 fn word_cnf(bytes: &[u8], from: usize) -> Option<usize>
     ensures { λ r. ⌜ Keyword (now (bytes .entry)) from (codes "cnf") r ⌝ }
@@ -36,7 +51,10 @@ fn word_cnf(bytes: &[u8], from: usize) -> Option<usize>
     let Scan::Word(at, next) = scan(bytes, from) else {
         return None;
     };
-    if next - at == 3 && bytes[at] == b'c' && bytes[at + 1] == b'n' && bytes[at + 2] == b'f' { Some(next) } else { None }
+    if next - at != 3 {
+        return None;
+    }
+    if is_cnf(bytes, at) { Some(next) } else { None }
 }
 
 // The next token as a number from `low` to `high`, and where the text goes on behind it.
