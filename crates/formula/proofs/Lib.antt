@@ -1,3 +1,12 @@
+pub mod AllLaws
 pub mod ClauseSteps
+pub mod Elements
+pub mod FillSteps
 pub mod HeaderWords
+pub mod Limits
 pub mod LineRows
+pub mod Plain
+pub mod ReadSteps
+pub mod Satisfied
+pub mod SpanParts
+pub mod SurveySteps

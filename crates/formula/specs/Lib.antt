@@ -1,6 +1,9 @@
 pub mod Clauses
 pub mod Spans
+pub mod Formulas
 pub mod Rows
 pub mod Reading
 pub mod Cursors
+pub mod Surveys
+pub mod Reads
 pub mod Laws

@@ -1,0 +1,101 @@
+//! The tables of a formula: what they hold, and how clauses come into them.
+ghost use mathlib.Core.Path.{_≡_};
+ghost use mathlib.Core.List.{[], _∷_, _++_};
+ghost use denote.Ref.{name};
+ghost use Prim.Native.Nat.{ℕ, _+_, _<_, _≤_};
+ghost use lib.ListN.{length};
+ghost use Rattle.std.specs.Options.{mapped, Cases};
+ghost use Rattle.tables.specs.Filled.{filled, capacityOf, over as written};
+ghost use Rattle.formula.specs.Spans.{part, Ranged};
+ghost use Rattle.formula.specs.Formulas.{variablesOf, clausesOf, literalSlots, spanSlots, numbered};
+use crate::formula::Formula;
+use crate::span::Span;
+use tables::fill::Fill;
+
+// The run of a table that a span is.
+fn part_of(literals: &[i32], s: Span) -> &[i32]
+    requires { ⌜ s .at + s .len ≤ length (now literals) ⌝ }
+    ensures { λ r. ⌜ now r ≡ part s (now (literals .entry)) ⌝ }
+{
+    let at = s.at;
+    let end = at + s.len;
+    &literals[at..end]
+}
+
+impl<'f> Formula<'f> {
+    /// A formula of no clause over one variable; the lent slots stay as they are.
+    pub fn over(literals: &'f mut [i32], spans: &'f mut [Span]) -> Formula<'f>
+        ensures variables { λ r. ⌜ variablesOf r ≡ 1 ⌝ }
+        ensures clauses { λ r. ⌜ clausesOf r ≡ [] ⌝ }
+        ensures literals { λ r. ⌜ literalSlots r ≡ now (literals .entry) ⌝ }
+        ensures spans { λ r. ⌜ spanSlots r ≡ now (spans .entry) ⌝ }
+        ensures lenders { λ r. ⌜ (name (r .literals .slots) ≡ name (literals .entry)) × (name (r .spans .slots) ≡ name (spans .entry)) ⌝ }
+    {
+        Formula {
+            literals: Fill::new(literals),
+            spans: Fill::new(spans),
+            variables: 1,
+        }
+    }
+
+    /// V: the variables are 1 to V.
+    pub fn variables(&self) -> usize
+        ensures is { λ r. ⌜ r ≡ variablesOf (now (self .entry)) ⌝ }
+        ensures limits { λ r. ⌜ (1 ≤ r) × (r ≤ 4096) ⌝ }
+    {
+        self.variables
+    }
+
+    /// How many clauses there are.
+    pub fn count(&self) -> usize
+        ensures is { λ r. ⌜ r ≡ length (clausesOf (now (self .entry))) ⌝ }
+        ensures limits { λ r. ⌜ r ≤ 65536 ⌝ }
+    {
+        self.spans.len()
+    }
+
+    /// The literals of the clause with this number, counted from 1.
+    pub fn clause(&self, number: usize) -> Option<&[i32]>
+        ensures is { λ r. ⌜ mapped now r ≡ numbered (clausesOf (now (self .entry))) number ⌝ }
+        ensures limits { λ r. ⌜ Cases r (Unit {0}) (λ c. Ranged (variablesOf (now (self .entry))) (now c)) ⌝ }
+    {
+        if number == 0 {
+            return None;
+        }
+        let Some(s) = self.spans.get(number - 1) else {
+            return None;
+        };
+        Some(part_of(self.literals.as_slice(), s))
+    }
+
+    // Empties the tables, for clauses over the variables 1 to `variables`.
+    pub(crate) fn start(&mut self, variables: usize)
+        requires { ⌜ 1 ≤ variables ⌝ ∗ ⌜ variables ≤ 4096 ⌝ }
+        ensures variables { λ _. ⌜ variablesOf (now (self .exit)) ≡ variables ⌝ }
+        ensures literals { λ _. ⌜ (filled (now (self .exit) .literals) ≡ []) × (literalSlots (now (self .exit)) ≡ literalSlots (now (self .entry))) ⌝ }
+        ensures spans { λ _. ⌜ (filled (now (self .exit) .spans) ≡ []) × (spanSlots (now (self .exit)) ≡ spanSlots (now (self .entry))) ⌝ }
+        ensures lenders { λ _. ⌜ (name (now (self .exit) .literals .slots) ≡ name (now (self .entry) .literals .slots)) × (name (now (self .exit) .spans .slots) ≡ name (now (self .entry) .spans .slots)) ⌝ }
+    {
+        self.literals.clear();
+        self.spans.clear();
+        self.variables = variables;
+    }
+
+    // Puts one more clause behind the others.
+    pub(crate) fn add(&mut self, clause: &[i32])
+        requires ranged { ⌜ Ranged (variablesOf (now self)) (now clause) ⌝ }
+        requires few { ⌜ length (filled (now self .spans)) < 65536 ⌝ }
+        requires space { ⌜ (length (filled (now self .literals)) + length (now clause) ≤ capacityOf (now self .literals)) × (length (filled (now self .spans)) < capacityOf (now self .spans)) ⌝ }
+        ensures variables { λ _. ⌜ variablesOf (now (self .exit)) ≡ variablesOf (now (self .entry)) ⌝ }
+        ensures literals { λ _. ⌜ (filled (now (self .exit) .literals) ≡ filled (now (self .entry) .literals) ++ now (clause .entry)) × (literalSlots (now (self .exit)) ≡ written (literalSlots (now (self .entry))) (length (filled (now (self .entry) .literals))) (now (clause .entry))) ⌝ }
+        ensures spans { λ _. ⌜ (filled (now (self .exit) .spans) ≡ filled (now (self .entry) .spans) ++ (record { at = length (filled (now (self .entry) .literals)); len = length (now (clause .entry)) } ∷ [])) × (spanSlots (now (self .exit)) ≡ written (spanSlots (now (self .entry))) (length (filled (now (self .entry) .spans))) (record { at = length (filled (now (self .entry) .literals)); len = length (now (clause .entry)) } ∷ [])) ⌝ }
+        ensures lenders { λ _. ⌜ (name (now (self .exit) .literals .slots) ≡ name (now (self .entry) .literals .slots)) × (name (now (self .exit) .spans .slots) ≡ name (now (self .entry) .spans .slots)) ⌝ }
+    {
+        let s = Span {
+            at: self.literals.len(),
+            len: clause.len(),
+        };
+        let _ = self.literals.extend(clause);
+        let _ = self.spans.push(s);
+    }
+}
