@@ -9,6 +9,10 @@ use Rattle.formula.specs.Clauses.{Clause, LiteralOf}
 abbrev pub noSpan : Span
 noSpan = record { at = 0; len = 0 }
 
+-- where a clause lies that begins at n
+abbrev pub spanAt : ℕ → Clause → Span
+spanAt n c = record { at = n; len = length c }
+
 -- the part of a table that a span is
 abbrev pub part : {X : Type 0} → Span → List X → List X
 part s xs = take (s .len) (drop (s .at) xs)
@@ -24,4 +28,4 @@ Ranged v ls = (k : ℕ) → k < length ls → LiteralOf v (getD ls k (pos 0))
 -- the spans of clauses that lie one behind the other from n on
 abbrev pub spansFrom : ℕ → List Clause → List Span
 spansFrom n [] = []
-spansFrom n (c ∷ cs) = record { at = n; len = length c } ∷ spansFrom (n + length c) cs
+spansFrom n (c ∷ cs) = spanAt n c ∷ spansFrom (n + length c) cs

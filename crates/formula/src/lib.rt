@@ -1,5 +1,6 @@
 //! Formulas in conjunctive normal form, read from DIMACS text into lent tables.
 mod clause;
+pub mod describe;
 pub mod formula;
 mod header;
 mod lines;

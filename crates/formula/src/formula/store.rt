@@ -1,11 +1,10 @@
-//! The tables of a formula: what they hold, and how clauses come into them.
+//! The tables of a formula, and what they hold.
 ghost use mathlib.Core.Path.{_≡_};
-ghost use mathlib.Core.List.{[], _∷_, _++_};
+ghost use mathlib.Core.List.{[]};
 ghost use denote.Ref.{name};
-ghost use Prim.Native.Nat.{ℕ, _+_, _<_, _≤_};
+ghost use Prim.Native.Nat.{_+_, _≤_};
 ghost use lib.ListN.{length};
 ghost use Rattle.std.specs.Options.{mapped, Cases};
-ghost use Rattle.tables.specs.Filled.{filled, capacityOf, over as written};
 ghost use Rattle.formula.specs.Spans.{part, Ranged};
 ghost use Rattle.formula.specs.Formulas.{variablesOf, clausesOf, literalSlots, spanSlots, numbered};
 use crate::formula::Formula;
@@ -66,36 +65,5 @@ impl<'f> Formula<'f> {
             return None;
         };
         Some(part_of(self.literals.as_slice(), s))
-    }
-
-    // Empties the tables, for clauses over the variables 1 to `variables`.
-    pub(crate) fn start(&mut self, variables: usize)
-        requires { ⌜ 1 ≤ variables ⌝ ∗ ⌜ variables ≤ 4096 ⌝ }
-        ensures variables { λ _. ⌜ variablesOf (now (self .exit)) ≡ variables ⌝ }
-        ensures literals { λ _. ⌜ (filled (now (self .exit) .literals) ≡ []) × (literalSlots (now (self .exit)) ≡ literalSlots (now (self .entry))) ⌝ }
-        ensures spans { λ _. ⌜ (filled (now (self .exit) .spans) ≡ []) × (spanSlots (now (self .exit)) ≡ spanSlots (now (self .entry))) ⌝ }
-        ensures lenders { λ _. ⌜ (name (now (self .exit) .literals .slots) ≡ name (now (self .entry) .literals .slots)) × (name (now (self .exit) .spans .slots) ≡ name (now (self .entry) .spans .slots)) ⌝ }
-    {
-        self.literals.clear();
-        self.spans.clear();
-        self.variables = variables;
-    }
-
-    // Puts one more clause behind the others.
-    pub(crate) fn add(&mut self, clause: &[i32])
-        requires ranged { ⌜ Ranged (variablesOf (now self)) (now clause) ⌝ }
-        requires few { ⌜ length (filled (now self .spans)) < 65536 ⌝ }
-        requires space { ⌜ (length (filled (now self .literals)) + length (now clause) ≤ capacityOf (now self .literals)) × (length (filled (now self .spans)) < capacityOf (now self .spans)) ⌝ }
-        ensures variables { λ _. ⌜ variablesOf (now (self .exit)) ≡ variablesOf (now (self .entry)) ⌝ }
-        ensures literals { λ _. ⌜ (filled (now (self .exit) .literals) ≡ filled (now (self .entry) .literals) ++ now (clause .entry)) × (literalSlots (now (self .exit)) ≡ written (literalSlots (now (self .entry))) (length (filled (now (self .entry) .literals))) (now (clause .entry))) ⌝ }
-        ensures spans { λ _. ⌜ (filled (now (self .exit) .spans) ≡ filled (now (self .entry) .spans) ++ (record { at = length (filled (now (self .entry) .literals)); len = length (now (clause .entry)) } ∷ [])) × (spanSlots (now (self .exit)) ≡ written (spanSlots (now (self .entry))) (length (filled (now (self .entry) .spans))) (record { at = length (filled (now (self .entry) .literals)); len = length (now (clause .entry)) } ∷ [])) ⌝ }
-        ensures lenders { λ _. ⌜ (name (now (self .exit) .literals .slots) ≡ name (now (self .entry) .literals .slots)) × (name (now (self .exit) .spans .slots) ≡ name (now (self .entry) .spans .slots)) ⌝ }
-    {
-        let s = Span {
-            at: self.literals.len(),
-            len: clause.len(),
-        };
-        let _ = self.literals.extend(clause);
-        let _ = self.spans.push(s);
     }
 }

@@ -1,0 +1,22 @@
+-- A formula in words. Assumes nothing.
+use Prim.Native.Nat.{ℕ}
+use mathlib.Core.List.{List, [], _∷_, _++_}
+use lib.Chars.{codes}
+use lib.IntN.{ℤ}
+use lib.ListN.{length}
+use Rattle.std.specs.Joined.{joined}
+use Rattle.std.specs.Written.{decimal, signed}
+use Rattle.formula.specs.Clauses.{Clause}
+use Rattle.formula.specs.Laws.{clauseText}
+
+-- literals with a space behind each
+abbrev pub literalsText : List ℤ → List ℕ
+literalsText ls = joined (λ l. signed l ++ 32 ∷ []) ls
+
+-- each clause on a line of its own
+abbrev pub clauseTexts : List Clause → List ℕ
+clauseTexts cs = joined clauseText cs
+
+-- a line of counts, then the clauses
+abbrev pub description : ℕ → List Clause → List ℕ
+description v cs = codes "formula variables=" ++ (decimal v ++ (codes " clauses=" ++ (decimal (length cs) ++ (10 ∷ clauseTexts cs))))

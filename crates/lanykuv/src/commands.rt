@@ -1,0 +1,72 @@
+//! What the program does for each command.
+use crate::files;
+use crate::words::words;
+use answers::refusal::Refusal;
+use answers::refusal::RefusalDisplay;
+use formula::describe::describe;
+use formula::describe::summarize;
+use formula::formula::Formula;
+use std::error::AnyError;
+use std::io::Write;
+
+const USAGE: &str = "usage: lanykuv                  read the formula f.cnf of this folder\n       lanykuv formula FILE     read a formula and print it\n       lanykuv help             print this\n";
+
+/// The files of the current folder.
+pub fn job(rt: &LibcRuntime) -> Result<(), AnyError> {
+    show(rt, "f.cnf", false)
+}
+
+/// A command that takes no file.
+pub fn alone(rt: &LibcRuntime, command: &str) -> Result<(), AnyError> {
+    match command {
+        "help" => {
+            rt.print(USAGE)?;
+            Ok(())
+        }
+        _ => misused(rt),
+    }
+}
+
+/// A command that takes a file.
+pub fn with_file(rt: &LibcRuntime, command: &str, file: &str) -> Result<(), AnyError> {
+    match command {
+        "formula" => show(rt, file, true),
+        _ => misused(rt),
+    }
+}
+
+/// No command of the usage.
+pub fn misused(rt: &LibcRuntime) -> Result<(), AnyError> {
+    rt.eprint(USAGE)?;
+    Err("no such command".into())
+}
+
+// Reads a formula and prints its counts, and its clauses where `whole`.
+fn show(rt: &LibcRuntime, path: &str, whole: bool) -> Result<(), AnyError> {
+    let heap = rt.alloc();
+    let bytes = files::read(rt, path)?;
+    let mut literals = files::literal_table(heap, bytes.as_slice())?;
+    let mut spans = files::span_table(heap, bytes.as_slice())?;
+    let mut formula = Formula::over(literals.as_mut_slice(), spans.as_mut_slice());
+    match formula.read(bytes.as_slice()) {
+        Ok(()) => {}
+        Err(refusal) => return refuse(rt, path, refusal),
+    }
+    let mut text = String::new(heap);
+    if whole {
+        describe(&mut text, &formula)?;
+    } else {
+        summarize(&mut text, &formula)?;
+    }
+    rt.stdout().write_all(text.as_bytes())?;
+    Ok(())
+}
+
+// Prints the refusal's line, and what it means on standard error.
+fn refuse(rt: &LibcRuntime, path: &str, refusal: Refusal) -> Result<(), AnyError> {
+    rt.println(refusal)?;
+    let place = refusal.place;
+    let meaning = words(refusal.fault);
+    eprintln!(rt, "lanykuv: {path}, line {place}: {meaning}")?;
+    Err("refused".into())
+}
