@@ -10,3 +10,4 @@ pub mod ReadSteps
 pub mod Satisfied
 pub mod SpanParts
 pub mod SurveySteps
+pub mod TextSteps

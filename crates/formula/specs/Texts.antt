@@ -17,6 +17,10 @@ literalsText ls = joined (λ l. signed l ++ 32 ∷ []) ls
 abbrev pub clauseTexts : List Clause → List ℕ
 clauseTexts cs = joined clauseText cs
 
--- a line of counts, then the clauses
+-- the line of counts
+abbrev pub summary : ℕ → ℕ → List ℕ
+summary v o = codes "formula variables=" ++ (decimal v ++ (codes " clauses=" ++ (decimal o ++ (10 ∷ []))))
+
+-- that line, then the clauses
 abbrev pub description : ℕ → List Clause → List ℕ
-description v cs = codes "formula variables=" ++ (decimal v ++ (codes " clauses=" ++ (decimal (length cs) ++ (10 ∷ clauseTexts cs))))
+description v cs = summary v (length cs) ++ clauseTexts cs

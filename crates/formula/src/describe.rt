@@ -1,11 +1,12 @@
 //! A formula in words: what was read, for a person to see.
 ghost use mathlib.Core.List.{_++_};
 ghost use mathlib.Core.Path.{_≡_};
+ghost use lib.ListN.{length};
 ghost use Rattle.std.specs.Of.String.{string-bytes};
 ghost use Rattle.std.specs.Vec.{made};
 ghost use Rattle.formula.specs.Formulas.{variablesOf, clausesOf};
 ghost use Rattle.formula.specs.Laws.{clauseText};
-ghost use Rattle.formula.specs.Texts.{literalsText, clauseTexts, description};
+ghost use Rattle.formula.specs.Texts.{literalsText, clauseTexts, summary, description};
 use crate::formula::Formula;
 use std::fmt;
 use std::fmt::Write;
@@ -47,7 +48,8 @@ pub fn summarize(out: &mut String, formula: &Formula) -> fmt::Result
 {
     let variables = formula.variables();
     let clauses = formula.count();
-    writeln!(out, "formula variables={variables} clauses={clauses}")
+    writeln!(out, "formula variables={variables} clauses={clauses}")?;
+    Ok(())
 }
 
 /// Writes what the formula is behind the text: the line of counts, then a line for each clause.
