@@ -23,7 +23,12 @@ impl Refusal {
     pub fn at(fault: Fault, place: usize) -> Refusal
         ensures { λ r. ⌜ r ≡ refusalAt fault place ⌝ }
     {
-        Refusal { fault, solver: 0, place, hint: 0 }
+        Refusal {
+            fault,
+            solver: 0,
+            place,
+            hint: 0,
+        }
     }
 }
 
@@ -35,6 +40,9 @@ pub impl fmt::Display for Refusal as RefusalDisplay {
         let solver = self.solver;
         let place = self.place;
         let hint = self.hint;
-        write!(f, "refused number={number} solver={solver} place={place} hint={hint}")
+        write!(
+            f,
+            "refused number={number} solver={solver} place={place} hint={hint}"
+        )
     }
 }

@@ -28,16 +28,28 @@ held f cs l s = ap (λ ls. map (λ s. part s ls) (filled (f .spans))) l ∙ ap (
 
 pub holds-none : (g : Formula) (v : ℕ) → variablesOf g ≡ v → filled (g .literals) ≡ [] → filled (g .spans) ≡ [] → Holds g g v []
 holds-none g v e l s = record {
-    variables = e; clauses = held g [] l s; literals = l; spans = s;
-    literal-slots = sym (over-nothing (literalSlots g)); span-slots = sym (over-nothing (spanSlots g));
-    literal-lender = refl; span-lender = refl }
+  variables = e;
+  clauses = held g [] l s;
+  literals = l;
+  spans = s;
+  literal-slots = sym (over-nothing (literalSlots g));
+  span-slots = sym (over-nothing (spanSlots g));
+  literal-lender = refl;
+  span-lender = refl;
+}
 
 -- the tables that were emptied had the same slots
 pub holds-since : (k g f : Formula) (v : ℕ) (cs : List Clause) → literalSlots g ≡ literalSlots k → spanSlots g ≡ spanSlots k → name (g .literals .slots) ≡ name (k .literals .slots) → name (g .spans .slots) ≡ name (k .spans .slots) → Holds g f v cs → Holds k f v cs
 holds-since k g f v cs l s m n h = record {
-    variables = h .variables; clauses = h .clauses; literals = h .literals; spans = h .spans;
-    literal-slots = h .literal-slots ∙ ap (λ x. over x 0 (literalsOf cs)) l; span-slots = h .span-slots ∙ ap (λ x. over x 0 (spansFrom 0 cs)) s;
-    literal-lender = h .literal-lender ∙ m; span-lender = h .span-lender ∙ n }
+  variables = h .variables;
+  clauses = h .clauses;
+  literals = h .literals;
+  spans = h .spans;
+  literal-slots = h .literal-slots ∙ ap (λ x. over x 0 (literalsOf cs)) l;
+  span-slots = h .span-slots ∙ ap (λ x. over x 0 (spansFrom 0 cs)) s;
+  literal-lender = h .literal-lender ∙ m;
+  span-lender = h .span-lender ∙ n;
+}
 
 -- one clause more
 module _ (g f h : Formula) (v : ℕ) (cs : List Clause) (c : Clause) (k : Holds g f v cs) where
@@ -64,14 +76,19 @@ module _ (g f h : Formula) (v : ℕ) (cs : List Clause) (c : Clause) (k : Holds 
       let ss′ : filled (h .spans) ≡ spansFrom 0 (cs ++ c ∷ []) = s ∙ ap (λ x. x ++ span ∷ []) (k .spans) ∙ more-spans in
       let w : length (spansFrom 0 cs) + length (span ∷ []) ≤ length (spanSlots g) = omega (arith, spans-length 0 cs) in
       record {
-          variables = e ∙ k .variables; clauses = held h (cs ++ c ∷ []) ls′ ss′; literals = ls′; spans = ss′;
-          literal-slots =
-              ls ∙ ap (λ x. over x (length (filled (f .literals))) c) (k .literal-slots) ∙ ap (λ x. over (over (literalSlots g) 0 (literalsOf cs)) (length x) c) (k .literals)
-              ∙ over-over (literalSlots g) (literalsOf cs) c room ∙ ap (over (literalSlots g) 0) (sym (literals-more cs c));
-          span-slots =
-              ss ∙ ap (λ x. over x (length (filled (f .spans))) (span ∷ [])) (k .span-slots) ∙ ap (λ x. over (over (spanSlots g) 0 (spansFrom 0 cs)) (length x) (span ∷ [])) (k .spans)
-              ∙ over-over (spanSlots g) (spansFrom 0 cs) (span ∷ []) w ∙ ap (over (spanSlots g) 0) more-spans;
-          literal-lender = m ∙ k .literal-lender; span-lender = n ∙ k .span-lender }
+        variables = e ∙ k .variables;
+        clauses = held h (cs ++ c ∷ []) ls′ ss′;
+        literals = ls′;
+        spans = ss′;
+        literal-slots =
+            ls ∙ ap (λ x. over x (length (filled (f .literals))) c) (k .literal-slots) ∙ ap (λ x. over (over (literalSlots g) 0 (literalsOf cs)) (length x) c) (k .literals)
+            ∙ over-over (literalSlots g) (literalsOf cs) c room ∙ ap (over (literalSlots g) 0) (sym (literals-more cs c));
+        span-slots =
+            ss ∙ ap (λ x. over x (length (filled (f .spans))) (span ∷ [])) (k .span-slots) ∙ ap (λ x. over (over (spanSlots g) 0 (spansFrom 0 cs)) (length x) (span ∷ [])) (k .spans)
+            ∙ over-over (spanSlots g) (spansFrom 0 cs) (span ∷ []) w ∙ ap (over (spanSlots g) 0) more-spans;
+        literal-lender = m ∙ k .literal-lender;
+        span-lender = n ∙ k .span-lender;
+      }
 
 -- how far the second pass has come
 pub record Fills (bytes : List ℕ) (v o from before at lines : ℕ) (g f : Formula) : Type 0 where
@@ -104,10 +121,11 @@ one-more bytes v o from before at lines n cs s z out m next line k =
     let p = ap length (literals-more cs c) ∙ length-append (literalsOf cs) c in
     let q = length-push cs c in
     record {
-        stands = t;
-        within = clause-within v (leb o (length cs)) (k .tokens) c (k .is);
-        room = omega (arith, f, p, z .size);
-        place = omega (arith, q, t .few) }
+      stands = t;
+      within = clause-within v (leb o (length cs)) (k .tokens) c (k .is);
+      room = omega (arith, f, p, z .size);
+      place = omega (arith, q, t .few);
+    }
 
 -- the second pass meets one clause more, where k is the formula before its tables were emptied
 module _ (bytes : List ℕ) (v o from before at lines n : ℕ) (k g f : Formula) (i : Fills bytes v o from before at lines g f) (z : Sized bytes v o from before n)
@@ -137,6 +155,7 @@ module _ (bytes : List ℕ) (v o from before at lines n : ℕ) (k g f : Formula)
       name (h .literals .slots) ≡ name (f .literals .slots) → name (h .spans .slots) ≡ name (f .spans .slots) →
       Fills bytes v o from before next line g h
   met-held h e ls ll ss sl p q = record {
-      clauses = i .clauses ++ take m out ∷ [];
-      stands = met .stands;
-      holds = holds-more g f h v (i .clauses) (take m out) (i .holds) (omega (arith, met .room)) (omega (arith, met .place)) e ls ll ss sl p q }
+    clauses = i .clauses ++ take m out ∷ [];
+    stands = met .stands;
+    holds = holds-more g f h v (i .clauses) (take m out) (i .holds) (omega (arith, met .room)) (omega (arith, met .place)) e ls ll ss sl p q;
+  }

@@ -76,7 +76,7 @@ pub three-two : (a b c : ℕ) → (b ≡ 110 → ⊥) → Three a b c ≡ false
 three-two a b c h = and-right (eqb 99 a) (eqb 110 b && (eqb 102 c && true)) (and-left (eqb 110 b) (eqb 102 c && true) (ne-eqb 110 b (λ q. h (sym q))))
 
 pub three-last : (a b c : ℕ) → a ≡ 99 → b ≡ 110 → Three a b c ≡ eqb c 102
-three-last a b c p q = elim (cases-eq c 102)
-    [ inl e ↦ and-from (eqb 99 a) _ (eq-eqb 99 a (sym p)) (and-from (eqb 110 b) _ (eq-eqb 110 b (sym q)) (and-from (eqb 102 c) true (eq-eqb 102 c (sym e)) refl)) ∙ sym (eq-eqb c 102 e)
-    | inr e ↦ and-right (eqb 99 a) _ (and-right (eqb 110 b) _ (and-left (eqb 102 c) true (ne-eqb 102 c (λ r. e (sym r))))) ∙ sym (ne-eqb c 102 e)
-    ]
+three-last a b c p q = elim (cases-eq c 102) [
+  | inl e ↦ and-from (eqb 99 a) _ (eq-eqb 99 a (sym p)) (and-from (eqb 110 b) _ (eq-eqb 110 b (sym q)) (and-from (eqb 102 c) true (eq-eqb 102 c (sym e)) refl)) ∙ sym (eq-eqb c 102 e)
+  | inr e ↦ and-right (eqb 99 a) _ (and-right (eqb 110 b) _ (and-left (eqb 102 c) true (ne-eqb 102 c (λ r. e (sym r))))) ∙ sym (ne-eqb c 102 e)
+]

@@ -10,4 +10,3 @@ pub mod ReadSteps
 pub mod Satisfied
 pub mod SpanParts
 pub mod SurveySteps
-pub mod TextSteps

@@ -37,12 +37,13 @@ module _ (bytes : List ℕ) (v o from before at lines : ℕ) (cs : List Clause) 
   stands-more out n next line k =
       let go : Clause → Reading = λ c. readClauses v o (cs ++ c ∷ []) (rowsAt bytes next line) in
       record {
-          is = sym (ap (readClauses v o cs) (k .rows) ∙ ap (λ r. andThen line r go) (k .is)) ∙ s .is;
-          few = elim (cases-bool (leb o (length cs)))
-              [ inl e ↦ absurd (not-surplus v (k .tokens) (take n out) (ap (λ b. clauseOf v b (k .tokens)) (sym e) ∙ k .is))
-              | inr e ↦ let l = leb-false o (length cs) e in let p = length-push cs (take n out) in omega arith
-              ];
-          line = k .low }
+        is = sym (ap (readClauses v o cs) (k .rows) ∙ ap (λ r. andThen line r go) (k .is)) ∙ s .is;
+        few = elim (cases-bool (leb o (length cs))) [
+          | inl e ↦ absurd (not-surplus v (k .tokens) (take n out) (ap (λ b. clauseOf v b (k .tokens)) (sym e) ∙ k .is))
+          | inr e ↦ let l = leb-false o (length cs) e in let p = length-push cs (take n out) in omega arith
+        ];
+        line = k .low;
+      }
 
   pub stands-fault : (f : Fault) (line : ℕ) → NextFault bytes at lines v (leb o (length cs)) f line → readClauses v o [] (rowsAt bytes from before) ≡ refused f line
   stands-fault f line k =
@@ -67,8 +68,9 @@ counts-more bytes v o from before at lines count literals s out n next line l k 
     let w : length (take n out) ≡ n = length-take-le n out (omega (arith, k .few)) in
     let p = ap length (literals-more cs (take n out)) ∙ length-append (literalsOf cs) (take n out) in
     record {
-        clauses = cs ++ take n out ∷ [];
-        stands = stands-more bytes v o from before at lines cs (s .stands) out n next line j;
-        many = length-push cs (take n out) ∙ ap (λ m. m + 1) (s .many);
-        size = p ∙ ap (λ m. m + length (take n out)) (s .size) ∙ ap (λ m. literals + m) w;
-        low = omega (arith, s .low, k .few) }
+      clauses = cs ++ take n out ∷ [];
+      stands = stands-more bytes v o from before at lines cs (s .stands) out n next line j;
+      many = length-push cs (take n out) ∙ ap (λ m. m + 1) (s .many);
+      size = p ∙ ap (λ m. m + length (take n out)) (s .size) ∙ ap (λ m. literals + m) w;
+      low = omega (arith, s .low, k .few);
+    }

@@ -7,4 +7,3 @@ pub mod Cursors
 pub mod Surveys
 pub mod Reads
 pub mod Laws
-pub mod Texts

@@ -48,7 +48,11 @@ fn find_offence(literals: &[i32], l: i32, variables: usize, surplus: bool) -> Op
     if literals.len() >= 64 {
         return Some(Fault::ManyLiterals);
     }
-    if surplus { Some(Fault::ClauseCount) } else { None }
+    if surplus {
+        Some(Fault::ClauseCount)
+    } else {
+        None
+    }
 }
 
 // The 0 behind the literals was read: where the next line begins.
@@ -67,7 +71,13 @@ fn close(bytes: &[u8], from: usize, surplus: bool) -> Result<usize, Fault>
 
 // The clause that the line goes on with at `from`: how many literals it has, now in the front of
 // `out`, and where the next line begins.
-fn read_clause(bytes: &[u8], from: usize, variables: usize, surplus: bool, out: &mut [i32; 64]) -> Result<(usize, usize), Fault>
+fn read_clause(
+    bytes: &[u8],
+    from: usize,
+    variables: usize,
+    surplus: bool,
+    out: &mut [i32; 64],
+) -> Result<(usize, usize), Fault>
     ensures { λ r. ⌜ ClauseAt (now (bytes .entry)) from variables surplus (now (out .exit)) r ⌝ }
 {
     let mut at = from;
@@ -93,7 +103,14 @@ fn read_clause(bytes: &[u8], from: usize, variables: usize, surplus: bool, out: 
 }
 
 // What comes next from `from` on, where a line begins that stands behind `before` others.
-pub(crate) fn next_clause(bytes: &[u8], from: usize, before: usize, variables: usize, surplus: bool, out: &mut [i32; 64]) -> Next
+pub(crate) fn next_clause(
+    bytes: &[u8],
+    from: usize,
+    before: usize,
+    variables: usize,
+    surplus: bool,
+    out: &mut [i32; 64],
+) -> Next
     requires { ⌜ before ≤ from ⌝ }
     ensures { λ r. ⌜ NextAt (now (bytes .entry)) from before variables surplus (now (out .exit)) r ⌝ }
 {

@@ -68,7 +68,11 @@ fn count(bytes: &[u8], from: usize, low: usize, high: usize) -> Option<(usize, u
         return None;
     }
     let n = z as usize;
-    if low <= n && n <= high { Some((n, next)) } else { None }
+    if low <= n && n <= high {
+        Some((n, next))
+    } else {
+        None
+    }
 }
 
 // The header that the line at `from` is.
@@ -90,5 +94,9 @@ pub(crate) fn read_header(bytes: &[u8], from: usize) -> Option<Header>
     let Some(next) = line_end(bytes, behind_o) else {
         return None;
     };
-    Some(Header { variables, clauses, next })
+    Some(Header {
+        variables,
+        clauses,
+        next,
+    })
 }

@@ -1,6 +1,5 @@
 //! Formulas in conjunctive normal form, read from DIMACS text into lent tables.
 mod clause;
-pub mod describe;
 pub mod formula;
 mod header;
 mod lines;

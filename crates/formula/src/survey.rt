@@ -20,7 +20,13 @@ pub(crate) struct Survey {
 }
 
 // How many literals the clauses from `from` on have, of which there should be `clauses`.
-fn survey_clauses(bytes: &[u8], variables: usize, clauses: usize, from: usize, before: usize) -> Result<usize, Refusal>
+fn survey_clauses(
+    bytes: &[u8],
+    variables: usize,
+    clauses: usize,
+    from: usize,
+    before: usize,
+) -> Result<usize, Refusal>
     requires { ⌜ before ≤ from ⌝ ∗ ⌜ clauses ≤ 65536 ⌝ }
     ensures { λ r. ⌜ SizedAt (now (bytes .entry)) variables clauses from before r ⌝ }
 {
@@ -41,7 +47,11 @@ fn survey_clauses(bytes: &[u8], variables: usize, clauses: usize, from: usize, b
             Next::End => break,
         }
     }
-    if count == clauses { Ok(literals) } else { Err(Refusal::at(Fault::ClauseCount, 0)) }
+    if count == clauses {
+        Ok(literals)
+    } else {
+        Err(Refusal::at(Fault::ClauseCount, 0))
+    }
 }
 
 // The whole file, but for the space that it takes.
@@ -58,7 +68,13 @@ pub(crate) fn survey_file(bytes: &[u8]) -> Result<Survey, Refusal>
     let clauses = header.clauses;
     let at = header.next;
     match survey_clauses(bytes, variables, clauses, at, line) {
-        Ok(literals) => Ok(Survey { variables, clauses, literals, at, line }),
+        Ok(literals) => Ok(Survey {
+            variables,
+            clauses,
+            literals,
+            at,
+            line,
+        }),
         Err(refusal) => Err(refusal),
     }
 }

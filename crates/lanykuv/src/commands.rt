@@ -3,13 +3,14 @@ use crate::files;
 use crate::words::words;
 use answers::refusal::Refusal;
 use answers::refusal::RefusalDisplay;
-use formula::describe::describe;
-use formula::describe::summarize;
 use formula::formula::Formula;
+use formula_text::describe::describe;
+use formula_text::describe::summarize;
 use std::error::AnyError;
 use std::io::Write;
 
-const USAGE: &str = "usage: lanykuv                  read the formula f.cnf of this folder\n       lanykuv formula FILE     read a formula and print it\n       lanykuv help             print this\n";
+const USAGE: &str =
+    "usage: lanykuv                  read the formula f.cnf of this folder\n       lanykuv formula FILE     read a formula and print it\n       lanykuv help             print this\n";
 
 /// The files of the current folder.
 pub fn job(rt: &LibcRuntime) -> Result<(), AnyError> {

@@ -3,6 +3,7 @@ use answers::refusal::Refusal;
 use answers::refusal::RefusalDisplay;
 use std::env;
 use std::error::AnyError;
+
 mod commands;
 mod files;
 mod words;
@@ -13,7 +14,11 @@ fn main(rt: LibcRuntime) -> Result<(), AnyError> {
     match (args.next(), args.next(), args.next()) {
         (None, None, None) => commands::job(&rt),
         (Some(command), None, None) => commands::alone(&rt, command.as_str()),
-        (Some(command), Some(file), None) => commands::with_file(&rt, command.as_str(), file.as_str()),
+        (Some(command), Some(file), None) => commands::with_file(
+            &rt,
+            command.as_str(),
+            file.as_str(),
+        ),
         _ => commands::misused(&rt),
     }
 }

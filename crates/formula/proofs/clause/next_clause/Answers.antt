@@ -15,10 +15,11 @@ returns-in-Ok c =
     let k = c .in-Ok .ensures tt in
     let row : Row = record { line = c .in-Some .line; tokens = tokensLeft (drop (c .in-Some .at) (c .args .bytes .now)) } in
     record {
-        tokens = tokensLeft (drop (c .in-Some .at) (c .args .bytes .now));
-        rows = r .rows ∙ ap (λ x. row ∷ rowsBehind (c .in-Some .line) (linesOf x)) (k .line);
-        is = k .is;
-        few = k .few;
-        after = omega (arith, r .after, k .after);
-        low = omega (arith, r .low, k .after);
-        inside = k .inside }
+      tokens = tokensLeft (drop (c .in-Some .at) (c .args .bytes .now));
+      rows = r .rows ∙ ap (λ x. row ∷ rowsBehind (c .in-Some .line) (linesOf x)) (k .line);
+      is = k .is;
+      few = k .few;
+      after = omega (arith, r .after, k .after);
+      low = omega (arith, r .low, k .after);
+      inside = k .inside;
+    }

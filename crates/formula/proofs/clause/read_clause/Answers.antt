@@ -42,10 +42,11 @@ loop-l-again c =
     let g = c .in-Number .ensures tt in
     let i = c .loop-l .inv in
     let few : length ls < 64 = no-offence v s ls l o in
-    let room : c .loop-l .n < length (c .loop-l .out) = omega (arith, few, length-take (c .loop-l .n) (c .loop-l .out), i .3, i .4) in
-    (ap (λ y. clauseFrom v s y ts) (take-more-set (c .loop-l .out) (c .loop-l .n) (toZ w32 (ofZ w32 l)) room ∙ ap (λ y. ls ++ y ∷ []) e)
-     ∙ sym (clause-goes v s ls l ts z o) ∙ ap (clauseFrom v s ls) (sym (g .tokens)) ∙ i .0,
-     i .1 ∙ g .line,
-     omega (arith, g .after, i .2),
-     omega (arith, room, i .4),
-     length-set (c .loop-l .out) (c .loop-l .n) (toZ w32 (ofZ w32 l)) ∙ i .4)
+    let room : c .loop-l .n < length (c .loop-l .out) = omega (arith, few, length-take (c .loop-l .n) (c .loop-l .out), i .3, i .4) in (
+      ap (λ y. clauseFrom v s y ts) (take-more-set (c .loop-l .out) (c .loop-l .n) (toZ w32 (ofZ w32 l)) room ∙ ap (λ y. ls ++ y ∷ []) e)
+          ∙ sym (clause-goes v s ls l ts z o) ∙ ap (clauseFrom v s ls) (sym (g .tokens)) ∙ i .0,
+      i .1 ∙ g .line,
+      omega (arith, g .after, i .2),
+      omega (arith, room, i .4),
+      length-set (c .loop-l .out) (c .loop-l .n) (toZ w32 (ofZ w32 l)) ∙ i .4,
+    )

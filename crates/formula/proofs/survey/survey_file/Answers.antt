@@ -17,9 +17,10 @@ returns-in-Ok c =
     let h = c .in-Some-read-header .header in
     let rest = rowsBehind line (linesOf (behindLine (drop (c .in-Some .start) (c .args .bytes .now)))) in
     record {
-        sized = sized;
-        is = ap readRows (row .rows) ∙ ap (λ a. behindHeader line a rest) (head .is) ∙ ap (λ x. readClauses (h .variables) (h .clauses) [] (rowsBehind line (linesOf x))) (head .line) ∙ sized .is;
-        some = head .some;
-        low = head .low;
-        few = head .few;
-        before = omega (arith, row .low, head .after) }
+      sized = sized;
+      is = ap readRows (row .rows) ∙ ap (λ a. behindHeader line a rest) (head .is) ∙ ap (λ x. readClauses (h .variables) (h .clauses) [] (rowsBehind line (linesOf x))) (head .line) ∙ sized .is;
+      some = head .some;
+      low = head .low;
+      few = head .few;
+      before = omega (arith, row .low, head .after);
+    }

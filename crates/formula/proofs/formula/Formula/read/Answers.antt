@@ -24,5 +24,5 @@ pub returns : need.returns
 returns c =
     let f = c .in-Ok .ensures tt in
     let r = read-so (c .args .self .now) (c .args .text .now) (c .in-Ok .found) f (c .fill .last .self)
-            (omega (arith, c .if-found-capacity .left, c .capacity .ensures)) (omega (arith, c .if-found-capacity-2 .left, c .capacity-2 .ensures)) (c .fill .ensures (f .sized .clauses) (f .is)) in
+    (omega (arith, c .if-found-capacity .left, c .capacity .ensures)) (omega (arith, c .if-found-capacity-2 .left, c .capacity-2 .ensures)) (c .fill .ensures (f .sized .clauses) (f .is)) in
     record { answer = r .0; tables = r .1; laws = laws }

@@ -3,10 +3,10 @@ use native.Mathlib.Omega.{arith}
 use mathlib.Core.List.{[]}
 use lib.ListN.{length}
 use Rattle.std.specs.Of.String.{string-bytes}
 use Rattle.formula.specs.Formulas.{clausesOf}
 use Rattle.formula.specs.Laws.{clauseText}
-use Rattle.formula.proofs.TextSteps.{text-more, text-all, numbered-at}
-use Rattle.formula.proofs.describe.push_clauses.Needs as need
+use Rattle.formula_text.proofs.TextSteps.{text-more, text-all, numbered-at}
+use Rattle.formula_text.proofs.describe.push_clauses.Needs as need
 
 pub loop-k-again : need.loop-k-again
 loop-k-again c =

@@ -2,9 +2,9 @@ use Prim.Native.Nat.{ℕ}
 use mathlib.Core.List.{_++_}
 use mathlib.Core.Path.{ap, _∙_}
 use Rattle.std.specs.Of.String.{string-bytes}
 use Rattle.formula.specs.Formulas.{variablesOf}
-use Rattle.formula.specs.Texts.{summary}
-use Rattle.formula.proofs.describe.summarize.Needs as need
+use Rattle.formula_text.specs.Texts.{summary}
+use Rattle.formula_text.proofs.describe.summarize.Needs as need
 
 pub returns : need.returns
 returns c =

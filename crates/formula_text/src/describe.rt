@@ -1,13 +1,13 @@
-//! A formula in words: what was read, for a person to see.
+//! The counts and the clauses of a formula, as the program prints them.
 ghost use mathlib.Core.List.{_++_};
 ghost use mathlib.Core.Path.{_≡_};
 ghost use lib.ListN.{length};
 ghost use Rattle.std.specs.Of.String.{string-bytes};
 ghost use Rattle.std.specs.Vec.{made};
 ghost use Rattle.formula.specs.Formulas.{variablesOf, clausesOf};
 ghost use Rattle.formula.specs.Laws.{clauseText};
-ghost use Rattle.formula.specs.Texts.{literalsText, clauseTexts, summary, description};
-use crate::formula::Formula;
+ghost use Rattle.formula_text.specs.Texts.{literalsText, clauseTexts, summary, description};
+use formula::formula::Formula;
 use std::fmt;
 use std::fmt::Write;
 

@@ -1,9 +1,9 @@
 use mathlib.Core.Path.{sym}
 use lib.Chars.{codes}
 use Rattle.std.specs.Of.String.{string-bytes}
-use Rattle.formula.specs.Texts.{literalsText}
-use Rattle.formula.proofs.TextSteps.{clause-text, made-if, made-behind}
-use Rattle.formula.proofs.describe.push_clause.Needs as need
+use Rattle.formula_text.specs.Texts.{literalsText}
+use Rattle.formula_text.proofs.TextSteps.{clause-text, made-if, made-behind}
+use Rattle.formula_text.proofs.describe.push_clause.Needs as need
 
 pub returns : need.returns
 returns c =

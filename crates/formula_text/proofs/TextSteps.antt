@@ -18,10 +18,10 @@ use Rattle.std.proofs.shelf.Decimals.{decimal-digit}
 use Rattle.std.proofs.shelf.Lists.{at-drop-more, at-drop-all}
 use Rattle.std.proofs.shelf.Maps.{nth-getD}
 use Rattle.text.specs.Written.{spaced}
 use Rattle.formula.specs.Clauses.{Clause}
 use Rattle.formula.specs.Formulas.{numbered}
 use Rattle.formula.specs.Laws.{clauseText}
-use Rattle.formula.specs.Texts.{literalsText}
+use Rattle.formula_text.specs.Texts.{literalsText}
 
 -- the line of a clause
 
