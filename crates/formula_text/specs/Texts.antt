@@ -2,16 +2,11 @@
 use Prim.Native.Nat.{ℕ}
 use mathlib.Core.List.{List, [], _∷_, _++_}
 use lib.Chars.{codes}
-use lib.IntN.{ℤ}
 use lib.ListN.{length}
 use Rattle.std.specs.Joined.{joined}
-use Rattle.std.specs.Written.{decimal, signed}
+use Rattle.std.specs.Written.{decimal}
 use Rattle.formula.specs.Clauses.{Clause}
 use Rattle.formula.specs.Laws.{clauseText}
-
--- literals with a space behind each
-abbrev pub literalsText : List ℤ → List ℕ
-literalsText ls = joined (λ l. signed l ++ 32 ∷ []) ls
 
 -- each clause on a line of its own
 abbrev pub clauseTexts : List Clause → List ℕ

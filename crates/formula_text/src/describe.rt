@@ -6,20 +6,11 @@ ghost use Rattle.std.specs.Of.String.{string-bytes};
 ghost use Rattle.std.specs.Vec.{made};
 ghost use Rattle.formula.specs.Formulas.{variablesOf, clausesOf};
 ghost use Rattle.formula.specs.Laws.{clauseText};
-ghost use Rattle.formula_text.specs.Texts.{literalsText, clauseTexts, summary, description};
+ghost use Rattle.formula_text.specs.Texts.{clauseTexts, summary, description};
 use formula::formula::Formula;
+use plain_text::numbers::push_literals;
 use std::fmt;
 use std::fmt::Write;
-
-// Writes the literals behind the text, with a space behind each.
-fn push_literals(out: &mut String, literals: &[i32]) -> fmt::Result
-    ensures { λ r. ⌜ made r (λ _. string-bytes (now (out .exit)) ≡ string-bytes (now (out .entry)) ++ literalsText (now (literals .entry))) ⌝ }
-{
-    for l in literals {
-        write!(out, "{l} ")?;
-    }
-    Ok(())
-}
 
 // Writes the line of a clause behind the text.
 fn push_clause(out: &mut String, clause: &[i32]) -> fmt::Result

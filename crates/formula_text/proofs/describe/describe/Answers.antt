@@ -3,7 +3,7 @@ use lib.ListN.{length}
 use Rattle.std.specs.Of.String.{string-bytes}
 use Rattle.formula.specs.Formulas.{variablesOf, clausesOf}
 use Rattle.formula_text.specs.Texts.{summary, clauseTexts}
-use Rattle.formula_text.proofs.TextSteps.{made-behind}
+use Rattle.plain_text.proofs.TextSteps.{made-behind}
 use Rattle.formula_text.proofs.describe.describe.Needs as need
 
 pub returns : need.returns

@@ -1,8 +1,9 @@
 use mathlib.Core.Path.{sym}
 use lib.Chars.{codes}
 use Rattle.std.specs.Of.String.{string-bytes}
-use Rattle.formula_text.specs.Texts.{literalsText}
-use Rattle.formula_text.proofs.TextSteps.{clause-text, made-if, made-behind}
+use Rattle.plain_text.specs.Texts.{literalsText}
+use Rattle.plain_text.proofs.TextSteps.{made-if, made-behind}
+use Rattle.formula_text.proofs.ClauseTexts.{clause-text}
 use Rattle.formula_text.proofs.describe.push_clause.Needs as need
 
 pub returns : need.returns

@@ -5,7 +5,8 @@ use lib.ListN.{length}
 use Rattle.std.specs.Of.String.{string-bytes}
 use Rattle.formula.specs.Formulas.{clausesOf}
 use Rattle.formula.specs.Laws.{clauseText}
-use Rattle.formula_text.proofs.TextSteps.{text-more, text-all, numbered-at}
+use Rattle.plain_text.proofs.TextSteps.{text-more, text-all}
+use Rattle.formula_text.proofs.ClauseTexts.{numbered-at}
 use Rattle.formula_text.proofs.describe.push_clauses.Needs as need
 
 pub loop-k-again : need.loop-k-again

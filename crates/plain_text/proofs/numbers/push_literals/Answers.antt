@@ -2,8 +2,8 @@ use mathlib.Core.List.{[], _∷_, _++_}
 use mathlib.Core.Path.{refl}
 use lib.IntN.{pos}
 use Rattle.std.specs.Written.{signed}
-use Rattle.formula_text.proofs.TextSteps.{text-more, text-all}
-use Rattle.formula_text.proofs.describe.push_literals.Needs as need
+use Rattle.plain_text.proofs.TextSteps.{text-more, text-all}
+use Rattle.plain_text.proofs.numbers.push_literals.Needs as need
 
 pub loop-l-again : need.loop-l-again
 loop-l-again c =
