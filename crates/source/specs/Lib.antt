@@ -1,0 +1,4 @@
+pub mod Items
+pub mod Limits
+pub mod Looks
+pub mod Marks

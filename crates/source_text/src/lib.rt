@@ -1,0 +1,2 @@
+//! Sources in words: every item still to come, and the ending.
+pub mod list;

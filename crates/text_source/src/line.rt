@@ -1,0 +1,20 @@
+//! What a text line of a partial proof is.
+
+#[derive(Clone, Copy)]
+pub enum Line {
+    // number, how many literals and hints, where the next line begins
+    Addition(u32, usize, usize, usize),
+    // how many deleted numbers, where the next line begins
+    Deletion(usize, usize),
+}
+
+// How the first line that is not blank begins.
+#[derive(Clone, Copy)]
+pub enum Start {
+    // a number, where the text goes on, the line's place
+    Number(i32, usize, usize),
+    // another word, in the line at this place
+    Misshapen(usize),
+    // no such line is left
+    Nothing,
+}
