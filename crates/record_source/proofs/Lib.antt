@@ -1,0 +1,4 @@
+-- Lemmas that several proofs share.
+pub mod Steps
+pub mod Places
+pub mod ReadBack

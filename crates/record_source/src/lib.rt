@@ -1,0 +1,7 @@
+//! A source over the bytes of a record file.
+pub mod cursor;
+mod fields;
+mod flaw;
+mod found;
+pub mod laws;
+mod records;
