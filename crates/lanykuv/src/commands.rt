@@ -6,11 +6,18 @@ use answers::refusal::RefusalDisplay;
 use formula::formula::Formula;
 use formula_text::describe::describe;
 use formula_text::describe::summarize;
+use record_source::cursor::RecordSource;
+use record_source::cursor::items::RecordItems;
+use record_source::cursor::marks::RecordMarks;
+use source_text::list::list;
 use std::error::AnyError;
 use std::io::Write;
+use text_source::cursor::TextSource;
+use text_source::cursor::items::TextItems;
+use text_source::cursor::marks::TextMarks;
 
 const USAGE: &str =
-    "usage: lanykuv                  read the formula f.cnf of this folder\n       lanykuv formula FILE     read a formula and print it\n       lanykuv help             print this\n";
+    "usage: lanykuv                  read the formula f.cnf of this folder\n       lanykuv formula FILE     read a formula and print it\n       lanykuv items FILE       print the items of a partial proof in LRAT text\n       lanykuv records FILE     print the items of a partial proof in records\n       lanykuv help             print this\n";
 
 /// The files of the current folder.
 pub fn job(rt: &LibcRuntime) -> Result<(), AnyError> {
@@ -32,6 +39,8 @@ pub fn alone(rt: &LibcRuntime, command: &str) -> Result<(), AnyError> {
 pub fn with_file(rt: &LibcRuntime, command: &str, file: &str) -> Result<(), AnyError> {
     match command {
         "formula" => show(rt, file, true),
+        "items" => items(rt, file),
+        "records" => records(rt, file),
         _ => misused(rt),
     }
 }
@@ -59,6 +68,26 @@ fn show(rt: &LibcRuntime, path: &str, whole: bool) -> Result<(), AnyError> {
     } else {
         summarize(&mut text, &formula)?;
     }
+    rt.stdout().write_all(text.as_bytes())?;
+    Ok(())
+}
+
+// Prints the items of a text, and its ending.
+fn items(rt: &LibcRuntime, path: &str) -> Result<(), AnyError> {
+    let bytes = files::read(rt, path)?;
+    let mut source = TextSource::new(bytes.as_slice());
+    let mut text = String::new(rt.alloc());
+    list(&mut text, &mut source)?;
+    rt.stdout().write_all(text.as_bytes())?;
+    Ok(())
+}
+
+// Prints the items of a record file, and its ending.
+fn records(rt: &LibcRuntime, path: &str) -> Result<(), AnyError> {
+    let bytes = files::read(rt, path)?;
+    let mut source = RecordSource::new(bytes.as_slice());
+    let mut text = String::new(rt.alloc());
+    list(&mut text, &mut source)?;
     rt.stdout().write_all(text.as_bytes())?;
     Ok(())
 }
