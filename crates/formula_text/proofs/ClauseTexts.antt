@@ -37,4 +37,3 @@ pub numbered-at : (cs : List Clause) (k : ℕ) (c : Clause) → k < length cs �
 numbered-at cs k c l e =
     let n : numbered cs (k + 1) ≡ Some (getD cs k []) = rw add-one (nth-getD cs k [] l) in
     cc
-

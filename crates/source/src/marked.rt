@@ -28,7 +28,11 @@ pub trait Marked: Source {
 }
 
 /// Looks at the first item and drops it: one call for each item of a source.
-pub fn take_first<S: Marked>(source: &mut S, literals: &mut [i32], hints: &mut [u32]) -> Result<Head, Refusal>
+pub fn take_first<S: Marked>(
+    source: &mut S,
+    literals: &mut [i32],
+    hints: &mut [u32],
+) -> Result<Head, Refusal>
     ensures answer { λ r. ⌜ r ≡ looked (wide (now (literals .entry)) (now (hints .entry))) (S·Source .items (now (source .entry))) (S·Source .ending (now (source .entry))) ⌝ }
     ensures literals { λ _. ⌜ now (literals .exit) ≡ written (wide (now (literals .entry)) (now (hints .entry))) (firstLiterals (S·Source .items (now (source .entry)))) (now (literals .entry)) ⌝ }
     ensures hints { λ _. ⌜ now (hints .exit) ≡ written (wide (now (literals .entry)) (now (hints .entry))) (firstHints (S·Source .items (now (source .entry)))) (now (hints .entry)) ⌝ }

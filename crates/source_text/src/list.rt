@@ -17,7 +17,13 @@ use std::fmt;
 use std::fmt::Write;
 
 // The line of an addition.
-fn push_addition(out: &mut String, place: usize, number: u32, literals: &[i32], hints: &[u32]) -> fmt::Result
+fn push_addition(
+    out: &mut String,
+    place: usize,
+    number: u32,
+    literals: &[i32],
+    hints: &[u32],
+) -> fmt::Result
     ensures { λ r. ⌜ made r (λ _. string-bytes (now (out .exit)) ≡ string-bytes (now (out .entry)) ++ additionText place number (now (literals .entry)) (now (hints .entry))) ⌝ }
 {
     write!(out, "place={place} {number} ")?;
@@ -54,7 +60,13 @@ fn push_head(out: &mut String, head: Head, literals: &[i32; 64], hints: &[u32; 2
     ensures { λ r. ⌜ made r (λ _. string-bytes (now (out .exit)) ≡ string-bytes (now (out .entry)) ++ headText head (now (literals .entry)) (now (hints .entry))) ⌝ }
 {
     match head {
-        Head::Addition(number, l, h, place) => push_addition(out, place, number, &literals[0..l], &hints[0..h]),
+        Head::Addition(number, l, h, place) => push_addition(
+            out,
+            place,
+            number,
+            &literals[0..l],
+            &hints[0..h],
+        ),
         Head::Deletion(h, place) => push_deletion(out, place, &hints[0..h]),
     }
 }

@@ -12,7 +12,12 @@ use source::head::Head;
 use source::source::Source;
 
 /// Looks at the source at `i`, counted from 0.
-pub fn look_at<S: Source>(sources: &[S], i: usize, literals: &mut [i32], hints: &mut [u32]) -> Result<Head, Refusal>
+pub fn look_at<S: Source>(
+    sources: &[S],
+    i: usize,
+    literals: &mut [i32],
+    hints: &mut [u32],
+) -> Result<Head, Refusal>
     ensures answer { λ r. ⌜ r ≡ looked (wide (now (literals .entry)) (now (hints .entry))) (itemsOf (map (S·Source .items) (now (sources .entry))) i) (endingOf (map (S·Source .ending) (now (sources .entry))) i) ⌝ }
     ensures literals { λ _. ⌜ now (literals .exit) ≡ written (wide (now (literals .entry)) (now (hints .entry))) (firstLiterals (itemsOf (map (S·Source .items) (now (sources .entry))) i)) (now (literals .entry)) ⌝ }
     ensures hints { λ _. ⌜ now (hints .exit) ≡ written (wide (now (literals .entry)) (now (hints .entry))) (firstHints (itemsOf (map (S·Source .items) (now (sources .entry))) i)) (now (hints .entry)) ⌝ }

@@ -47,12 +47,12 @@ module _ {A : Type 0} (keep : ℤ → Option A) (z : ℤ) (ts : List Token) wher
   run-on k x e h l = simp (e, h, ne-eqb k 0 (λ q. omega arith))
 
   pub run-more : (K n : ℕ) (out : List A) (x : A) → isZero z ≡ false → keep z ≡ Some x → n < K → K ≤ length out →
-    prefixed (take n out) (collect keep (K - n) (number z ∷ ts)) ≡ prefixed (take (n + 1) (set out n x)) (collect keep (K - (n + 1)) ts)
+      prefixed (take n out) (collect keep (K - n) (number z ∷ ts)) ≡ prefixed (take (n + 1) (set out n x)) (collect keep (K - (n + 1)) ts)
   run-more K n out x e h l s =
-    let k : (K - n) - 1 ≡ K - (n + 1) = omega arith in
-    ap (prefixed (take n out)) (run-on (K - n) x e h (omega arith) ∙ ap (λ m. behind x (collect keep m ts)) k)
-    ∙ sym (prefixed-more (take n out) x (collect keep (K - (n + 1)) ts))
-    ∙ ap (λ l. prefixed l (collect keep (K - (n + 1)) ts)) (sym (take-more-set out n x (omega arith)))
+      let k : (K - n) - 1 ≡ K - (n + 1) = omega arith in
+      ap (prefixed (take n out)) (run-on (K - n) x e h (omega arith) ∙ ap (λ m. behind x (collect keep m ts)) k)
+      ∙ sym (prefixed-more (take n out) x (collect keep (K - (n + 1)) ts))
+      ∙ ap (λ l. prefixed l (collect keep (K - (n + 1)) ts)) (sym (take-more-set out n x (omega arith)))
 
 -- what is no number stops a run
 pub run-stops : {A : Type 0} (keep : ℤ → Option A) (k : ℕ) (ts : List Token) → firstNumber ts ≡ None → collect keep k ts ≡ off MisshapenLine
@@ -83,4 +83,3 @@ signless-step bs K n at next out z w y v x whole same nz k l s g e i = run-step 
 pub signless-bad : (bs : List ℕ) (K n at : ℕ) (out : List ℕ) (z w : ℤ) (whole : Run ℕ) → z ≡ w → isZero z ≡ false → None ≡ signless z →
     whole ≡ prefixed (take n out) (collect signless (K - n) (number z ∷ tokensLeft (drop at bs))) → whole ≡ off MisshapenLine
 signless-bad bs K n at out z w whole same nz b i = i ∙ ap (prefixed (take n out)) (run-bad signless z (tokensLeft (drop at bs)) (K - n) nz (sym b))
-

@@ -225,11 +225,11 @@ left-few : (bytes : List ℕ) (at lines : ℕ) → length (left bytes at lines .
 left-few bytes at lines =
     cond-both (leb lines at && ltb (length bytes) (2 ^ 64)) (readFrom bytes at lines) clean (λ r. length (r .items) < 2 ^ 63)
     (λ e.
-      let s = ltb-true (length bytes) (2 ^ 64) (and-parts (leb lines at) (ltb (length bytes) (2 ^ 64)) e .1) in
-      let a = lines-few (unfed bytes) (linesOf (drop at bytes)) lines in
-      let b = size-lines (drop at bytes) in
-      let d = length-drop at bytes in
-      omega arith)
+    let s = ltb-true (length bytes) (2 ^ 64) (and-parts (leb lines at) (ltb (length bytes) (2 ^ 64)) e .1) in
+    let a = lines-few (unfed bytes) (linesOf (drop at bytes)) lines in
+    let b = size-lines (drop at bytes) in
+    let d = length-drop at bytes in
+    omega arith)
     (λ _. omega arith)
 
 pub items-few : (t : TextSource) → length (itemsLeft t) < 2 ^ 63

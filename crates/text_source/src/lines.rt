@@ -33,7 +33,13 @@ fn seek(bytes: &[u8], from: usize, before: usize) -> Start
 }
 
 // The next line that is not blank, its literals and its hints, with its place; or the ending.
-pub(crate) fn next_line(bytes: &[u8], at: usize, lines: usize, ls: &mut [i32], hs: &mut [u32]) -> Result<(Line, usize), Refusal>
+pub(crate) fn next_line(
+    bytes: &[u8],
+    at: usize,
+    lines: usize,
+    ls: &mut [i32],
+    hs: &mut [u32],
+) -> Result<(Line, usize), Refusal>
     requires { ⌜ 64 ≤ length (now ls) ⌝ ∗ ⌜ 256 ≤ length (now hs) ⌝ }
     ensures { λ r. ⌜ Nexts (now (bytes .entry)) at lines (now (ls .exit)) (now (hs .exit)) r ⌝ }
 {

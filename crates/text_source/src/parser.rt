@@ -46,7 +46,12 @@ fn without_sign(z: i32) -> Option<u32>
 }
 
 // The hints or deleted numbers of a line up to their 0: the first, or that 0, and those from `from` on.
-fn numbers_on(bytes: &[u8], first: i32, from: usize, out: &mut [u32]) -> Result<(usize, usize), Fault>
+fn numbers_on(
+    bytes: &[u8],
+    first: i32,
+    from: usize,
+    out: &mut [u32],
+) -> Result<(usize, usize), Fault>
     requires { ⌜ from ≤ length (now bytes) ⌝ ∗ ⌜ 256 ≤ length (now out) ⌝ }
     ensures { λ r. ⌜ Runs (now (bytes .entry)) from (numbersIn (token first ∷ tokensLeft (drop from (now (bytes .entry))))) (now (out .exit)) 256 r ⌝ }
 {
@@ -97,7 +102,14 @@ fn deletion(bytes: &[u8], from: usize, ls: &[i32], hs: &mut [u32]) -> Result<Lin
 }
 
 // An addition: its number, its first literal or the 0, and what stands from `from` on.
-fn addition(bytes: &[u8], own: u32, first: i32, from: usize, ls: &mut [i32], hs: &mut [u32]) -> Result<Line, Fault>
+fn addition(
+    bytes: &[u8],
+    own: u32,
+    first: i32,
+    from: usize,
+    ls: &mut [i32],
+    hs: &mut [u32],
+) -> Result<Line, Fault>
     requires { ⌜ from ≤ length (now bytes) ⌝ ∗ ⌜ 64 ≤ length (now ls) ⌝ ∗ ⌜ 256 ≤ length (now hs) ⌝ }
     ensures { λ r. ⌜ Reads (now (bytes .entry)) from (additionOf own (literalsIn (token first ∷ tokensLeft (drop from (now (bytes .entry)))))) (now (ls .exit)) (now (hs .exit)) r ⌝ }
 {
@@ -114,7 +126,13 @@ fn addition(bytes: &[u8], own: u32, first: i32, from: usize, ls: &mut [i32], hs:
 }
 
 // The line that begins with the number `first`, from behind it on.
-pub(crate) fn line(bytes: &[u8], first: i32, from: usize, ls: &mut [i32], hs: &mut [u32]) -> Result<Line, Fault>
+pub(crate) fn line(
+    bytes: &[u8],
+    first: i32,
+    from: usize,
+    ls: &mut [i32],
+    hs: &mut [u32],
+) -> Result<Line, Fault>
     requires { ⌜ from ≤ length (now bytes) ⌝ ∗ ⌜ 64 ≤ length (now ls) ⌝ ∗ ⌜ 256 ≤ length (now hs) ⌝ }
     ensures { λ r. ⌜ Reads (now (bytes .entry)) from (parse (token first ∷ tokensLeft (drop from (now (bytes .entry))))) (now (ls .exit)) (now (hs .exit)) r ⌝ }
 {

@@ -30,12 +30,20 @@ impl<'a> TextSource<'a> {
         ensures items { λ r. ⌜ itemsLeft r ≡ reading (now (bytes .entry)) .items ⌝ }
         ensures ending { λ r. ⌜ endingLeft r ≡ reading (now (bytes .entry)) .ending ⌝ }
     {
-        TextSource { bytes, at: 0, lines: 0 }
+        TextSource {
+            bytes,
+            at: 0,
+            lines: 0,
+        }
     }
 }
 
 // The first item and a mark behind it; a line that is no item writes nothing.
-pub(crate) fn read(source: &TextSource, literals: &mut [i32], hints: &mut [u32]) -> Result<(Head, Mark), Refusal>
+pub(crate) fn read(
+    source: &TextSource,
+    literals: &mut [i32],
+    hints: &mut [u32],
+) -> Result<(Head, Mark), Refusal>
     ensures answer { λ r. ⌜ unmarked r ≡ looked (wide (now (literals .entry)) (now (hints .entry))) (itemsLeft (now (source .entry))) (endingLeft (now (source .entry))) ⌝ }
     ensures literals { λ _. ⌜ now (literals .exit) ≡ written (wide (now (literals .entry)) (now (hints .entry))) (firstLiterals (itemsLeft (now (source .entry)))) (now (literals .entry)) ⌝ }
     ensures hints { λ _. ⌜ now (hints .exit) ≡ written (wide (now (literals .entry)) (now (hints .entry))) (firstHints (itemsLeft (now (source .entry)))) (now (hints .entry)) ⌝ }
@@ -52,11 +60,25 @@ pub(crate) fn read(source: &TextSource, literals: &mut [i32], hints: &mut [u32])
             Line::Addition(number, nl, nh, next) => {
                 copy_front(literals, &ls, nl);
                 copy_front(hints, &hs, nh);
-                Ok((Head::Addition(number, nl, nh, place), Mark { at: next, place, additions: 0 }))
+                Ok((
+                    Head::Addition(number, nl, nh, place),
+                    Mark {
+                        at: next,
+                        place,
+                        additions: 0,
+                    },
+                ))
             }
             Line::Deletion(nh, next) => {
                 copy_front(hints, &hs, nh);
-                Ok((Head::Deletion(nh, place), Mark { at: next, place, additions: 0 }))
+                Ok((
+                    Head::Deletion(nh, place),
+                    Mark {
+                        at: next,
+                        place,
+                        additions: 0,
+                    },
+                ))
             }
         },
     }

@@ -17,8 +17,9 @@ loop-head-again g c =
     let hs = c .loop-head .hints in
     let after = string-bytes (c .push-head .last .out) in
     let listed = item-listed (wide ls hs) (wide-enough ls hs (i .2) (i .3)) xs e (c .in-Ok .head) ls (c .take-first .last .literals) hs (c .take-first .last .hints) (string-bytes (c .loop-head .out)) after _
-        (f .answer) (f .literals) (f .hints) (c .in-Continue-push-head .ensures tt) (i .0) in
-    (ap (λ ys. after ++ listing ys (g .S·Source .ending (c .take-first .last .source))) (f .after) ∙ ap (λ (y : Ending). after ++ listing (behindFirst xs) y) (f .ending) ∙ listed,
-     f .ending ∙ i .1,
-     c .take-first .kept .literals ∙ i .2,
-     c .take-first .kept .hints ∙ i .3)
+    (f .answer) (f .literals) (f .hints) (c .in-Continue-push-head .ensures tt) (i .0) in (
+      ap (λ ys. after ++ listing ys (g .S·Source .ending (c .take-first .last .source))) (f .after) ∙ ap (λ (y : Ending). after ++ listing (behindFirst xs) y) (f .ending) ∙ listed,
+      f .ending ∙ i .1,
+      c .take-first .kept .literals ∙ i .2,
+      c .take-first .kept .hints ∙ i .3,
+    )

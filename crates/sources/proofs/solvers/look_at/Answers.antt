@@ -19,9 +19,10 @@ returns-then-i-sources g c =
     let e = member (g .S·Source .ending) ss i noEnding s l (c .index-sources-i .is) in
     let f = c .look .ensures in
     record {
-        answer = f .answer ∙ looked-as w (g .S·Source .items s) (getD (map (g .S·Source .items) ss) i []) (g .S·Source .ending s) (getD (map (g .S·Source .ending) ss) i noEnding) xs e;
-        literals = f .literals ∙ ap (λ (y : List Placed). written w (firstLiterals y) (c .args .literals .now)) xs;
-        hints = f .hints ∙ ap (λ (y : List Placed). written w (firstHints y) (c .args .hints .now)) xs }
+      answer = f .answer ∙ looked-as w (g .S·Source .items s) (getD (map (g .S·Source .items) ss) i []) (g .S·Source .ending s) (getD (map (g .S·Source .ending) ss) i noEnding) xs e;
+      literals = f .literals ∙ ap (λ (y : List Placed). written w (firstLiterals y) (c .args .literals .now)) xs;
+      hints = f .hints ∙ ap (λ (y : List Placed). written w (firstHints y) (c .args .hints .now)) xs;
+    }
 
 pub returns : need.returns
 returns g c =
@@ -34,6 +35,7 @@ returns g c =
     let e = missing (g .S·Source .ending) ss i noEnding l in
     let w = wide-enough ls hs (c .if-literals-lt64 .left) (c .if-hints-lt256 .left) in
     record {
-        answer = ap Err (c .at-2 .ensures) ∙ sym (looked-none (wide ls hs) (getD (map (g .S·Source .items) ss) i []) (getD (map (g .S·Source .ending) ss) i noEnding) w xs e);
-        literals = sym (written-none (wide ls hs) (firstLiterals (getD (map (g .S·Source .items) ss) i [])) ls (ap firstLiterals xs));
-        hints = sym (written-none (wide ls hs) (firstHints (getD (map (g .S·Source .items) ss) i [])) hs (ap firstHints xs)) }
+      answer = ap Err (c .at-2 .ensures) ∙ sym (looked-none (wide ls hs) (getD (map (g .S·Source .items) ss) i []) (getD (map (g .S·Source .ending) ss) i noEnding) w xs e);
+      literals = sym (written-none (wide ls hs) (firstLiterals (getD (map (g .S·Source .items) ss) i [])) ls (ap firstLiterals xs));
+      hints = sym (written-none (wide ls hs) (firstHints (getD (map (g .S·Source .items) ss) i [])) hs (ap firstHints xs));
+    }

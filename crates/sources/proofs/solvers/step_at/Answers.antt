@@ -20,9 +20,10 @@ returns-then-i-sources g c =
     let e = member (g .S·Source .ending) ss i noEnding s l is in
     let f = c .step .ensures in
     record {
-        answer = f .answer ∙ stepped-as (g .S·Source .items s) (getD (map (g .S·Source .items) ss) i []) (g .S·Source .ending s) (getD (map (g .S·Source .ending) ss) i noEnding) xs e;
-        items = map-set (g .S·Source .items) ss i (c .step .last .self) ∙ ap (set (map (g .S·Source .items) ss) i) (f .after ∙ ap behindFirst xs);
-        endings = unchanged (g .S·Source .ending) ss i s (c .step .last .self) l is (f .ending) }
+      answer = f .answer ∙ stepped-as (g .S·Source .items s) (getD (map (g .S·Source .items) ss) i []) (g .S·Source .ending s) (getD (map (g .S·Source .ending) ss) i noEnding) xs e;
+      items = map-set (g .S·Source .items) ss i (c .step .last .self) ∙ ap (set (map (g .S·Source .items) ss) i) (f .after ∙ ap behindFirst xs);
+      endings = unchanged (g .S·Source .ending) ss i s (c .step .last .self) l is (f .ending);
+    }
 
 pub returns : need.returns
 returns g c =
@@ -32,6 +33,7 @@ returns g c =
     let xs = missing (g .S·Source .items) ss i [] l in
     let e = missing (g .S·Source .ending) ss i noEnding l in
     record {
-        answer = ap Err (c .at .ensures) ∙ sym (stepped-as (getD (map (g .S·Source .items) ss) i []) [] (getD (map (g .S·Source .ending) ss) i noEnding) noEnding xs e);
-        items = sym (set-none (map (g .S·Source .items) ss) i (behindFirst (getD (map (g .S·Source .items) ss) i [])) (simp length-map l));
-        endings = refl }
+      answer = ap Err (c .at .ensures) ∙ sym (stepped-as (getD (map (g .S·Source .items) ss) i []) [] (getD (map (g .S·Source .ending) ss) i noEnding) noEnding xs e);
+      items = sym (set-none (map (g .S·Source .items) ss) i (behindFirst (getD (map (g .S·Source .items) ss) i [])) (simp length-map l));
+      endings = refl;
+    }

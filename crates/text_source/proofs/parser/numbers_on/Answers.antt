@@ -19,9 +19,10 @@ loop-z-again c =
     let g = c .in-Some-number .ensures tt in
     let y = c .in-Some-number .y in
     let e : toZ w32 (ofZ w32 y) ≡ y = search (needs, toZ-ofZ) in
-    let s : 256 ≤ length (c .loop-z .out) = omega (arith, c .loop-z .kept .out) in
-    (signless-step (c .args .bytes .now) 256 (c .loop-z .n) (c .loop-z .at) (c .in-Some-number .next) (c .loop-z .out) _ _ y _ _ _ (c .loop-z .z-is) (not-zero _ (c .loop-z-test .taken)) (c .in-Some .ensures tt) (omega arith) s g e (c .loop-z .inv .0),
-     omega arith,
-     c .loop-z .inv .2 ∙ g .line,
-     omega (arith, g .after),
-     g .inside)
+    let s : 256 ≤ length (c .loop-z .out) = omega (arith, c .loop-z .kept .out) in (
+      signless-step (c .args .bytes .now) 256 (c .loop-z .n) (c .loop-z .at) (c .in-Some-number .next) (c .loop-z .out) _ _ y _ _ _ (c .loop-z .z-is) (not-zero _ (c .loop-z-test .taken)) (c .in-Some .ensures tt) (omega arith) s g e (c .loop-z .inv .0),
+      omega arith,
+      c .loop-z .inv .2 ∙ g .line,
+      omega (arith, g .after),
+      g .inside,
+    )
