@@ -3,5 +3,4 @@ pub mod cursor;
 mod fields;
 mod flaw;
 mod found;
-pub mod laws;
 mod records;

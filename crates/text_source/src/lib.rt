@@ -1,6 +1,5 @@
 //! The text format of a partial proof: its reading, and a source over the bytes of a text.
 pub mod cursor;
-pub mod laws;
 mod line;
 mod lines;
 mod parser;

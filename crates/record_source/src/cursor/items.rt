@@ -6,6 +6,7 @@ ghost use denote.Ref.{now};
 ghost use Rattle.source.specs.Items.{onto};
 ghost use Rattle.record_source.specs.Cursors.{itemsLeft, endingLeft};
 ghost use Rattle.record_source.specs.Keeps.{left-within, left-ends, left-few};
+ghost use Rattle.record_source.specs.Laws.{ReadsBack};
 ghost use Rattle.record_source.specs.Reading.{reading};
 use crate::cursor::RecordSource;
 use crate::records::next;
@@ -15,10 +16,11 @@ use source::head::Head;
 use source::source::Source;
 
 impl<'a> RecordSource<'a> {
-    /// A source of all items of a record file.
+    /// A source of all items of a record file. Its law: what is written reads back.
     pub fn new(bytes: &'a [u8]) -> RecordSource<'a>
         ensures items { λ r. ⌜ itemsLeft r ≡ reading (now (bytes .entry)) .items ⌝ }
         ensures ending { λ r. ⌜ endingLeft r ≡ reading (now (bytes .entry)) .ending ⌝ }
+        ensures law { λ _. ⌜ ReadsBack ⌝ }
     {
         RecordSource {
             bytes,

@@ -5,6 +5,7 @@ ghost use lib.ListN.{length, take};
 ghost use Rattle.source.specs.Items.{onto, firstLiterals, firstHints};
 ghost use Rattle.source.specs.Looks.{looked, wide, written};
 ghost use Rattle.source.specs.Marks.{unmarked, Leads};
+ghost use Rattle.text_source.specs.Laws.{ReadsBack};
 ghost use Rattle.text_source.specs.Reading.{reading};
 ghost use Rattle.text_source.specs.Lefts.{itemsLeft, endingLeft, LeadsOn};
 use crate::cursor::TextSource;
@@ -25,10 +26,11 @@ fn copy_front<T: Copy>(dst: &mut [T], src: &[T], n: usize)
 }
 
 impl<'a> TextSource<'a> {
-    /// A source at the first line of a text.
+    /// A source at the first line of a text. Its law: what is written reads back.
     pub fn new(bytes: &'a [u8]) -> TextSource<'a>
         ensures items { λ r. ⌜ itemsLeft r ≡ reading (now (bytes .entry)) .items ⌝ }
         ensures ending { λ r. ⌜ endingLeft r ≡ reading (now (bytes .entry)) .ending ⌝ }
+        ensures law { λ _. ⌜ ReadsBack ⌝ }
     {
         TextSource {
             bytes,
