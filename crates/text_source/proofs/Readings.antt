@@ -1,26 +1,24 @@
 -- The first line of what is left of a text.
 use Prim.Native.Nat.{ℕ, _+_, _^_, _≤_, _<_}
 use native.Mathlib.Omega.{arith}
-use mathlib.Core.Bool.{Bool, true, false, cond, _&&_}
+use mathlib.Core.Bool.{Bool, _&&_}
 use mathlib.Core.List.{List, [], _∷_}
 use mathlib.Core.Path.{_≡_, refl, sym, ap, _∙_}
 use lib.Dec.{leb, ltb}
 use lib.IntN.{ℤ}
 use lib.ListN.{length, drop}
 use Rattle.std.proofs.shelf.Lists.{at-drop-all}
-use Rattle.std.proofs.shelf.Tests.{le-leb, lt-leb, lt-ltb, and-from, and-left, cond-true, cond-false, cond-both}
-use Rattle.answers.specs.declared.fault.Fault.{Fault}
+use Rattle.std.proofs.shelf.Tests.{lt-leb, and-left, cond-false, cond-both}
 use Rattle.answers.specs.declared.fault.Fault.the-variants.{MisshapenLine}
 use Rattle.answers.specs.Refusals.{refusalAt}
-use Rattle.source.specs.Items.{Item}
 use Rattle.text.specs.Words.{Token, linesOf}
 use Rattle.text.specs.Words.Token.{number, word}
 use Rattle.text.specs.Fronts.{behindLine, tokensLeft, Goes, Stops, Ends}
 use Rattle.text.proofs.Lines.{lines-at}
-use Rattle.text_source.specs.Parse.{Parsed, good, wrong, parse}
+use Rattle.text_source.specs.Parse.{wrong, parse}
 use Rattle.text_source.specs.Reading.{Reading, clean, then, lineThen, noLines, unfed, readLines}
 use Rattle.text_source.specs.Lefts.{readFrom, left}
-use Rattle.text_source.specs.Lines.{Opens, Closes, Begins}
+use Rattle.text_source.specs.Lines.{Closes, Begins}
 
 module _ (bs : List ℕ) (at p : ℕ) (h : at < length bs) where
   rest : Reading

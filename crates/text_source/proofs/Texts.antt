@@ -1,11 +1,10 @@
 -- The text of items reads back as these items.
 use Prim.Native.Nat.{ℕ, zero, suc, _+_, _-_, _≤_}
 use native.Mathlib.Omega.{arith}
-use mathlib.Core.Bool.{Bool, true, false, cond, _&&_}
+use mathlib.Core.Bool.{Bool, false, cond, _&&_}
 use mathlib.Core.List.{List, [], _∷_, _++_, map}
 use mathlib.Core.Path.{_≡_, refl, ap, _∙_}
-use lib.Dec.{eqb}
-use lib.IntN.{ℤ, pos, negsuc, natAbs}
+use lib.IntN.{ℤ, pos, negsuc}
 use lib.ListN.{length}
 use Rattle.std.specs.declared.option.Option.{Option}
 use Rattle.std.specs.declared.option.Option.the-variants.{Some}
@@ -15,11 +14,11 @@ use Rattle.std.proofs.shelf.Tests.{ne-eqb}
 use Rattle.answers.specs.declared.fault.Fault.the-variants.{MisshapenLine, CountLimit, NoItem}
 use Rattle.source.specs.Items.{Item, addition, deletion}
 use Rattle.source.specs.Limits.{Positive, Literal, Within}
-use Rattle.text.specs.Words.{limit, Token, linesOf, tokenOf, tokensOf}
+use Rattle.text.specs.Words.{limit, Token, linesOf, tokenOf}
 use Rattle.text.specs.Words.Token.{number, word}
 use Rattle.text.specs.Written.{spaced}
 use Rattle.text.proofs.Written.{Word, tokens-spaced, lines-line, spaced-light, word-decimal, word-signed, token-decimal, token-signed}
-use Rattle.text_source.specs.Parse.{Run, got, off, behind, oneMore, isZero, collect, literal, signless, literalsIn, numbersIn, good, wrong, deletionOf, hinted, additionOf, numbered, parse}
+use Rattle.text_source.specs.Parse.{got, off, behind, oneMore, isZero, collect, literal, signless, literalsIn, numbersIn, good, wrong, deletionOf, hinted, additionOf, numbered, parse}
 use Rattle.text_source.specs.Reading.{Reading, then, lineThen, noLines, unfed, readLines}
 use Rattle.text_source.specs.Texts.{itemWords, headBehind, textOf, placedFrom}
 use Rattle.text_source.specs.Laws.{ReadsBack}

@@ -1,10 +1,10 @@
 -- Why items and endings keep the limits, and why they are few enough to count. Assumes nothing.
 use Prim.Native.Nat.{ℕ, zero, suc, _+_, _-_, _*_, _^_, _≤_, _<_}
 use native.Mathlib.Omega.{arith}
-use mathlib.Core.Bool.{Bool, true, false, cond, _&&_}
+use mathlib.Core.Bool.{Bool, false, _&&_}
 use mathlib.Core.List.{List, [], _∷_, map}
 use mathlib.Core.Logic.{inl, inr}
-use mathlib.Core.Path.{_≡_, refl, ap, subst, sym}
+use mathlib.Core.Path.{_≡_, refl, subst, sym}
 use lib.Dec.{eqb, leb, ltb}
 use lib.IntN.{ℤ, pos, negsuc, natAbs}
 use lib.ListN.{length, drop, length-drop}
@@ -15,8 +15,7 @@ use Rattle.std.specs.shelf.Lists.{All}
 use Rattle.std.proofs.shelf.Tests.{cond-both, and-parts, leb-true, ltb-true, eqb-false}
 use Rattle.answers.specs.declared.fault.Fault.{Fault}
 use Rattle.answers.specs.declared.fault.Fault.the-variants.{MisshapenLine, CountLimit}
-use Rattle.answers.specs.Numbers.{numberOf}
-use Rattle.source.specs.Items.{Item, addition, deletion, Placed, Ending}
+use Rattle.source.specs.Items.{Item, addition, deletion}
 use Rattle.source.specs.Limits.{Positive, Literal, Within, AllWithin, EndingWithin}
 use Rattle.text.specs.Words.{limit, Token, natural, decimalForm, valueFrom, unsigned, negative, tokenOf, tokensOf, blank, wordsOf, joinFirst, linesOf}
 use Rattle.text.specs.Words.Token.{number, word}

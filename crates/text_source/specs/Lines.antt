@@ -14,6 +14,7 @@ use Rattle.answers.specs.declared.fault.Fault.the-variants.{MisshapenLine}
 use Rattle.answers.specs.declared.refusal.Refusal.{Refusal}
 use Rattle.source.specs.Items.{Item, addition, deletion}
 use Rattle.source.specs.Looks.{ended}
+use Rattle.source.specs.declared.head.Mark.{Mark}
 use Rattle.text.specs.Words.{Token, linesOf}
 use Rattle.text.specs.Words.Token.{number, word}
 use Rattle.text.specs.Fronts.{tokensLeft, behindLine, Goes}
@@ -61,10 +62,19 @@ abbrev pub Runs : {A : Type 0} → List ℕ → ℕ → Run A → List A → ℕ
 Runs bytes from run out most (Ok p) = Ran bytes from run out most (p .0) (p .1)
 Runs bytes from run out most (Err f) = run ≡ off f
 
--- a line parsed into the fronts of two arrays
-abbrev pub Reads : List ℕ → ℕ → Parsed → List ℤ → List ℕ → Result Line Fault → Type 0
-Reads bytes from p ls hs (Ok (Addition n l h next)) = (p ≡ good (addition n (take l ls) (take h hs))) × (l ≤ 64) × (h ≤ 256) × Ends bytes from next
-Reads bytes from p ls hs (Ok (Deletion h next)) = (p ≡ good (deletion (take h hs))) × (h ≤ 256) × Ends bytes from next
+-- the item whose literals and hints stand in the fronts of two arrays
+abbrev pub itemIn : Line → List ℤ → List ℕ → Item
+itemIn (Addition n l h) ls hs = addition n (take l ls) (take h hs)
+itemIn (Deletion h) ls hs = deletion (take h hs)
+
+-- as many as the arrays hold
+abbrev pub Counted : Line → Type 0
+Counted (Addition n l h) = (l ≤ 64) × (h ≤ 256)
+Counted (Deletion h) = h ≤ 256
+
+-- a line parsed into the fronts of two arrays, and where the next one begins
+abbrev pub Reads : List ℕ → ℕ → Parsed → List ℤ → List ℕ → Result (Line × ℕ) Fault → Type 0
+Reads bytes from p ls hs (Ok q) = (p ≡ good (itemIn (q .0) ls hs)) × Counted (q .0) × Ends bytes from (q .1)
 Reads bytes from p ls hs (Err f) = p ≡ wrong f
 
 -- a reading's first item and what is left behind it, or its ending
@@ -86,8 +96,7 @@ Starts bytes from lines (Number z next place) = Begins bytes from lines z next p
 Starts bytes from lines (Misshapen place) = ((stop : Bool) × (readFrom bytes from lines ≡ then place stop (wrong MisshapenLine) clean))
 Starts bytes from lines Nothing = readFrom bytes from lines ≡ clean
 
--- the next line that is not blank, parsed into the fronts of two arrays, with its place; or the ending
-abbrev pub Nexts : List ℕ → ℕ → ℕ → List ℤ → List ℕ → Result (Line × ℕ) Refusal → Type 0
-Nexts bytes at lines ls hs (Ok (Addition n l h next, place)) = Opens (left bytes at lines) (addition n (take l ls) (take h hs)) place (left bytes next place) × (l ≤ 64) × (h ≤ 256)
-Nexts bytes at lines ls hs (Ok (Deletion h next, place)) = Opens (left bytes at lines) (deletion (take h hs)) place (left bytes next place) × (h ≤ 256)
+-- the next line that is not blank, parsed into the fronts of two arrays, with a mark behind it; or the ending
+abbrev pub Nexts : List ℕ → ℕ → ℕ → List ℤ → List ℕ → Result (Line × Mark) Refusal → Type 0
+Nexts bytes at lines ls hs (Ok q) = Opens (left bytes at lines) (itemIn (q .0) ls hs) (q .1 .place) (left bytes (q .1 .at) (q .1 .place)) × Counted (q .0)
 Nexts bytes at lines ls hs (Err e) = Closes (left bytes at lines) e

@@ -2,10 +2,10 @@
 
 #[derive(Clone, Copy)]
 pub enum Line {
-    // number, how many literals and hints, where the next line begins
-    Addition(u32, usize, usize, usize),
-    // how many deleted numbers, where the next line begins
-    Deletion(usize, usize),
+    // number, how many literals and hints
+    Addition(u32, usize, usize),
+    // how many deleted numbers
+    Deletion(usize),
 }
 
 // How the first line that is not blank begins.

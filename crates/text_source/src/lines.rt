@@ -1,6 +1,5 @@
 //! The next line of a text that is not blank.
-ghost use mathlib.Core.Path.{_≡_};
-ghost use Prim.Native.Nat.{_^_, _<_, _≤_};
+ghost use Prim.Native.Nat.{_≤_};
 ghost use lib.ListN.{length};
 ghost use Rattle.text_source.specs.Lines.{Starts, Nexts};
 use crate::line::Line;
@@ -8,6 +7,7 @@ use crate::line::Start;
 use crate::parser::line;
 use answers::fault::Fault;
 use answers::refusal::Refusal;
+use source::head::Mark;
 use text::scan::Scan;
 use text::scanner::scan;
 
@@ -32,14 +32,14 @@ fn seek(bytes: &[u8], from: usize, before: usize) -> Start
     Start::Nothing
 }
 
-// The next line that is not blank, its literals and its hints, with its place; or the ending.
+// The next line that is not blank, its literals and its hints, with a mark behind it; or the ending.
 pub(crate) fn next_line(
     bytes: &[u8],
     at: usize,
     lines: usize,
     ls: &mut [i32],
     hs: &mut [u32],
-) -> Result<(Line, usize), Refusal>
+) -> Result<(Line, Mark), Refusal>
     requires { ⌜ 64 ≤ length (now ls) ⌝ ∗ ⌜ 256 ≤ length (now hs) ⌝ }
     ensures { λ r. ⌜ Nexts (now (bytes .entry)) at lines (now (ls .exit)) (now (hs .exit)) r ⌝ }
 {
@@ -50,7 +50,14 @@ pub(crate) fn next_line(
         Start::Nothing => Err(Refusal::at(Fault::NoItem, 0)),
         Start::Misshapen(place) => Err(Refusal::at(Fault::MisshapenLine, place)),
         Start::Number(z, next, place) => match line(bytes, z, next, ls, hs) {
-            Ok(l) => Ok((l, place)),
+            Ok((l, after)) => Ok((
+                l,
+                Mark {
+                    at: after,
+                    place,
+                    additions: 0,
+                },
+            )),
             Err(fault) => Err(Refusal::at(fault, place)),
         },
     }

@@ -88,13 +88,13 @@ fn numbers(bytes: &[u8], from: usize, out: &mut [u32]) -> Result<(usize, usize),
 }
 
 // A deletion, from behind its letter on.
-fn deletion(bytes: &[u8], from: usize, ls: &[i32], hs: &mut [u32]) -> Result<Line, Fault>
+fn deletion(bytes: &[u8], from: usize, ls: &[i32], hs: &mut [u32]) -> Result<(Line, usize), Fault>
     requires { ⌜ from ≤ length (now bytes) ⌝ ∗ ⌜ 256 ≤ length (now hs) ⌝ }
     ensures { λ r. ⌜ Reads (now (bytes .entry)) from (deletionOf (numbersIn (tokensLeft (drop from (now (bytes .entry)))))) (now (ls .entry)) (now (hs .exit)) r ⌝ }
 {
     match numbers(bytes, from, hs) {
         Ok((n, next)) => match line_end(bytes, next) {
-            Some(after) => Ok(Line::Deletion(n, after)),
+            Some(after) => Ok((Line::Deletion(n), after)),
             None => Err(Fault::MisshapenLine),
         },
         Err(fault) => Err(fault),
@@ -109,14 +109,14 @@ fn addition(
     from: usize,
     ls: &mut [i32],
     hs: &mut [u32],
-) -> Result<Line, Fault>
+) -> Result<(Line, usize), Fault>
     requires { ⌜ from ≤ length (now bytes) ⌝ ∗ ⌜ 64 ≤ length (now ls) ⌝ ∗ ⌜ 256 ≤ length (now hs) ⌝ }
     ensures { λ r. ⌜ Reads (now (bytes .entry)) from (additionOf own (literalsIn (token first ∷ tokensLeft (drop from (now (bytes .entry)))))) (now (ls .exit)) (now (hs .exit)) r ⌝ }
 {
     match literals(bytes, first, from, ls) {
         Ok((l, middle)) => match numbers(bytes, middle, hs) {
             Ok((h, next)) => match line_end(bytes, next) {
-                Some(after) => Ok(Line::Addition(own, l, h, after)),
+                Some(after) => Ok((Line::Addition(own, l, h), after)),
                 None => Err(Fault::MisshapenLine),
             },
             Err(fault) => Err(fault),
@@ -125,14 +125,14 @@ fn addition(
     }
 }
 
-// The line that begins with the number `first`, from behind it on.
+// The line that begins with the number `first`, from behind it on, and where the next one begins.
 pub(crate) fn line(
     bytes: &[u8],
     first: i32,
     from: usize,
     ls: &mut [i32],
     hs: &mut [u32],
-) -> Result<Line, Fault>
+) -> Result<(Line, usize), Fault>
     requires { ⌜ from ≤ length (now bytes) ⌝ ∗ ⌜ 64 ≤ length (now ls) ⌝ ∗ ⌜ 256 ≤ length (now hs) ⌝ }
     ensures { λ r. ⌜ Reads (now (bytes .entry)) from (parse (token first ∷ tokensLeft (drop from (now (bytes .entry))))) (now (ls .exit)) (now (hs .exit)) r ⌝ }
 {

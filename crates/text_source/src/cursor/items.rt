@@ -3,7 +3,6 @@ ghost use Rattle.text_source.specs.Lefts.{itemsLeft, endingLeft};
 ghost use Rattle.text_source.specs.Keeps.{items-keep, ending-keeps, items-few};
 use crate::cursor::TextSource;
 use crate::cursor::reads::read;
-use crate::line::Line;
 use crate::lines::next_line;
 use answers::refusal::Refusal;
 use source::head::Head;
@@ -32,18 +31,11 @@ pub impl Source for TextSource<'_> as TextItems {
         let mut hs = [0u32; 256];
         match next_line(self.bytes, self.at, self.lines, &mut ls, &mut hs) {
             Err(refusal) => Err(refusal),
-            Ok((l, place)) => match l {
-                Line::Addition(_, _, _, next) => {
-                    self.at = next;
-                    self.lines = place;
-                    Ok(())
-                }
-                Line::Deletion(_, next) => {
-                    self.at = next;
-                    self.lines = place;
-                    Ok(())
-                }
-            },
+            Ok((_, mark)) => {
+                self.at = mark.at;
+                self.lines = mark.place;
+                Ok(())
+            }
         }
     }
 }

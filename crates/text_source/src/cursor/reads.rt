@@ -58,29 +58,15 @@ pub(crate) fn read(
     let mut hs = [0u32; 256];
     match next_line(source.bytes, source.at, source.lines, &mut ls, &mut hs) {
         Err(refusal) => Err(refusal),
-        Ok((l, place)) => match l {
-            Line::Addition(number, nl, nh, next) => {
+        Ok((l, mark)) => match l {
+            Line::Addition(number, nl, nh) => {
                 copy_front(literals, &ls, nl);
                 copy_front(hints, &hs, nh);
-                Ok((
-                    Head::Addition(number, nl, nh, place),
-                    Mark {
-                        at: next,
-                        place,
-                        additions: 0,
-                    },
-                ))
+                Ok((Head::Addition(number, nl, nh, mark.place), mark))
             }
-            Line::Deletion(nh, next) => {
+            Line::Deletion(nh) => {
                 copy_front(hints, &hs, nh);
-                Ok((
-                    Head::Deletion(nh, place),
-                    Mark {
-                        at: next,
-                        place,
-                        additions: 0,
-                    },
-                ))
+                Ok((Head::Deletion(nh, mark.place), mark))
             }
         },
     }

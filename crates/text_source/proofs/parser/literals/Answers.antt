@@ -1,4 +1,4 @@
--- One turn of the loop.
+-- One literal more.
 use borrow.Author.Needs.{needs}
 use native.Mathlib.Omega.{arith}
 use mathlib.Core.Path.{_≡_, refl, _∙_}
