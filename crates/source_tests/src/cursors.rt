@@ -170,6 +170,31 @@ fn of_step(row: Row, i: usize) -> [usize; 5] {
     if i < 3 { [0, 0, 0, 0, 0] } else { ending }
 }
 
+// What buffers hold after a look in turn `i`: the item in front, and what stood there before.
+fn literals_of(i: usize) -> [i32; 64] {
+    let mut out = [LITERAL; 64];
+    if i == 0 {
+        out[0] = 1;
+        out[1] = -2;
+    }
+    out
+}
+
+fn hints_of(i: usize) -> [u32; 256] {
+    let mut out = [HINT; 256];
+    if i == 0 {
+        out[0] = 3;
+        out[1] = 4;
+        out[2] = 5;
+    } else if i == 1 {
+        out[0] = 8;
+        out[1] = 9;
+    } else if i == 2 {
+        out[0] = 6;
+    }
+    out
+}
+
 // Two looks, then a step.
 fn turn<S: Source>(source: &mut S, row: Row, i: usize) -> Result<(), Fail> {
     let mut literals = [LITERAL; 64];
@@ -182,6 +207,8 @@ fn turn<S: Source>(source: &mut S, row: Row, i: usize) -> Result<(), Fail> {
         looked(source.look(&mut literals, &mut hints)),
         of_turn(row, i),
     )?;
+    check_eq(literals, literals_of(i))?;
+    check_eq(hints, hints_of(i))?;
     check_eq(stepped(source.step()), of_step(row, i))
 }
 
