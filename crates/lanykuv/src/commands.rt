@@ -20,12 +20,12 @@ const USAGE: &str =
     "usage: lanykuv                  read the formula f.cnf of this folder\n       lanykuv formula FILE     read a formula and print it\n       lanykuv items FILE       print the items of a partial proof in LRAT text\n       lanykuv records FILE     print the items of a partial proof in records\n       lanykuv help             print this\n";
 
 /// The files of the current folder.
-pub fn job(rt: &LibcRuntime) -> Result<(), AnyError> {
+pub(crate) fn job(rt: &LibcRuntime) -> Result<(), AnyError> {
     show(rt, "f.cnf", false)
 }
 
 /// A command that takes no file.
-pub fn alone(rt: &LibcRuntime, command: &str) -> Result<(), AnyError> {
+pub(crate) fn alone(rt: &LibcRuntime, command: &str) -> Result<(), AnyError> {
     match command {
         "help" => {
             rt.print(USAGE)?;
@@ -36,7 +36,7 @@ pub fn alone(rt: &LibcRuntime, command: &str) -> Result<(), AnyError> {
 }
 
 /// A command that takes a file.
-pub fn with_file(rt: &LibcRuntime, command: &str, file: &str) -> Result<(), AnyError> {
+pub(crate) fn with_file(rt: &LibcRuntime, command: &str, file: &str) -> Result<(), AnyError> {
     match command {
         "formula" => show(rt, file, true),
         "items" => items(rt, file),
@@ -46,7 +46,7 @@ pub fn with_file(rt: &LibcRuntime, command: &str, file: &str) -> Result<(), AnyE
 }
 
 /// No command of the usage.
-pub fn misused(rt: &LibcRuntime) -> Result<(), AnyError> {
+pub(crate) fn misused(rt: &LibcRuntime) -> Result<(), AnyError> {
     rt.eprint(USAGE)?;
     Err("no such command".into())
 }

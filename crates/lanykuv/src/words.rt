@@ -2,7 +2,7 @@
 use answers::fault::Fault;
 
 /// What is wrong, in words.
-pub fn words(fault: Fault) -> &'static str {
+pub(crate) fn words(fault: Fault) -> &'static str {
     match fault {
         Fault::NoSuchSolver => "there is no such solver",
         Fault::SolverCount => "there must be 1 to 16 solvers",
