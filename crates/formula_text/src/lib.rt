@@ -1,2 +1,3 @@
 //! Formulas in words: what was read, for a person to see.
+#![tactic(auto)]
 pub mod describe;

@@ -1,4 +1,5 @@
 //! Tests of lines and their check: verdicts, offers, and lines found by number.
+#![tactic(auto)]
 #[cfg(test)]
 mod bytes;
 #[cfg(test)]

@@ -1,4 +1,5 @@
 //! Lines of a proof in lent tables: each is found by its number in constant time.
+#![tactic(auto)]
 pub mod addition;
 pub mod entry;
 mod heads;

@@ -1,4 +1,5 @@
 //! A source over the bytes of a record file.
+#![tactic(auto)]
 pub mod cursor;
 mod fields;
 mod flaw;

@@ -1,4 +1,5 @@
 //! Whether a line follows: unit propagation through its hints, on assignment bytes.
+#![tactic(auto)]
 pub mod assignment;
 pub mod check;
 mod guard;

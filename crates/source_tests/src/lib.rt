@@ -1,4 +1,5 @@
 //! Tests of the sources: whole readings, case by case, and single looks and steps.
+#![tactic(auto)]
 #[cfg(test)]
 mod bytes;
 #[cfg(test)]

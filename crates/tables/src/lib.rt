@@ -1,2 +1,3 @@
 //! Tables over lent memory.
+#![tactic(auto)]
 pub mod fill;
