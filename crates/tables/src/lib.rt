@@ -1,3 +1,4 @@
 //! Tables over lent memory.
 #![tactic(auto)]
+
 pub mod fill;

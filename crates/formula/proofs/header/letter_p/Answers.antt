@@ -18,8 +18,8 @@ returns-else-next-at-eq1 c =
     let t = c.in-Word.ensures in
     no_length c.args.bytes.now c.args.from c.in-Word.at c.in-Word.next (codes "p") t.0 (omega (arith, t.2)) c.if-next-at-eq1.false
 
-pub returns-in-default-2 : goal.returns-in-default-2
-returns-in-default-2 c =
+pub returns-in_default-2 : goal.returns-in_default-2
+returns-in_default-2 c =
     let bs = c.args.bytes.now in
     let at = c.in-Word.at in
     let next = c.in-Word.next in

@@ -9,10 +9,10 @@ passed : (bs : List ℕ) (at : ℕ) (r : Option ℕ) → at < length bs → comm
 passed bs at (Some next) h e p = (rows_blank bs at h next e p.0 p.1, p.1.on h, p.1.inside)
 passed bs at None h e p = rows_row bs at h p.0 p.1 e p.2
 
-pub returns-then-is-comment : goal.returns-then-is-comment
-returns-then-is-comment c =
-    let o = c.next-line.ensures in
-    (rows_comment c.args.bytes.now c.args.at c.requires c.next-line.result (sym c.if-is-comment.ensures) o, o.on c.requires, o.inside)
+pub returns-then-is_comment : goal.returns-then-is_comment
+returns-then-is_comment c =
+    let o = c.next_line.ensures in
+    (rows_comment c.args.bytes.now c.args.at c.requires c.next_line.result (sym c.if-is_comment.ensures) o, o.on c.requires, o.inside)
 
 pub returns : goal.returns
-returns c = passed c.args.bytes.now c.args.at c.line-end.result c.requires (sym c.if-is-comment.ensures) c.line-end.ensures
+returns c = passed c.args.bytes.now c.args.at c.line_end.result c.requires (sym c.if-is_comment.ensures) c.line_end.ensures

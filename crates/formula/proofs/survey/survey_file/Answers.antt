@@ -8,10 +8,10 @@ use Rattle.formula.proofs.survey.survey_file.Goals as goal
 pub returns-in-Ok : goal.returns-in-Ok
 returns-in-Ok c =
     let row = c.in-Some.ensures in
-    let head = c.in-Some-read-header.ensures in
+    let head = c.in-Some-read_header.ensures in
     let sized = c.in-Ok.ensures in
     let line = c.in-Some.line in
-    let h = c.in-Some-read-header.header in
+    let h = c.in-Some-read_header.header in
     let rest = rows_behind line (lines_of (behind_line (drop c.in-Some.start c.args.bytes.now))) in
     record {
       sized = sized;

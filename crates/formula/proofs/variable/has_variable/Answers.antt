@@ -5,12 +5,12 @@ use Rattle.std.proofs.lemmas.Bool.{eq-eqb, ne_eqb}
 use Rattle.formula.specs.Clauses.{has_variable}
 use Rattle.formula.proofs.variable.has_variable.Goals as goal
 
-pub returns-then-unsigned-abs-variable : goal.returns-then-unsigned-abs-variable
-returns-then-unsigned-abs-variable c =
+pub returns-then-unsigned_abs-variable : goal.returns-then-unsigned_abs-variable
+returns-then-unsigned_abs-variable c =
     let ls = c.args.literals.now in
     let k = get_or ls c.loop-k.k-index (pos 0) in
-    let a : c.unsigned-abs.result ≡ nat_abs k = search (rules, to_z-of_z) in
-    let e : eqb (nat_abs k) c.args.variable ≡ true = eq-eqb _ _ (sym a ∙ c.if-unsigned-abs-variable.true) in
+    let a : c.unsigned_abs.result ≡ nat_abs k = search (rules, to_z-of_z) in
+    let e : eqb (nat_abs k) c.args.variable ≡ true = eq-eqb _ _ (sym a ∙ c.if-unsigned_abs-variable.true) in
     sym (ap (λ t. t || has_variable (pos c.args.variable) (drop (c.loop-k.k-index + 1) ls)) e)
     ∙ sym (at_drop_more (has_variable (pos c.args.variable)) ls c.loop-k.k-index (pos 0) c.loop-k-test.true) ∙ c.loop-k.invariant
 
@@ -18,8 +18,8 @@ pub loop-k-preserved : goal.loop-k-preserved
 loop-k-preserved c =
     let ls = c.args.literals.now in
     let k = get_or ls c.loop-k.k-index (pos 0) in
-    let a : c.unsigned-abs.result ≡ nat_abs k = search (rules, to_z-of_z) in
-    let e : eqb (nat_abs k) c.args.variable ≡ false = ne_eqb _ _ (λ q. c.if-unsigned-abs-variable.false (a ∙ q)) in
+    let a : c.unsigned_abs.result ≡ nat_abs k = search (rules, to_z-of_z) in
+    let e : eqb (nat_abs k) c.args.variable ≡ false = ne_eqb _ _ (λ q. c.if-unsigned_abs-variable.false (a ∙ q)) in
     sym (ap (λ t. t || has_variable (pos c.args.variable) (drop (c.loop-k.k-index + 1) ls)) e)
     ∙ sym (at_drop_more (has_variable (pos c.args.variable)) ls c.loop-k.k-index (pos 0) c.loop-k-test.true) ∙ c.loop-k.invariant
 

@@ -7,5 +7,5 @@ use Rattle.formula_text.proofs.describe.describe.Goals as goal
 pub returns : goal.returns
 returns c =
     let f = c.args.formula.now in
-    made_behind c.push-clauses.result (string_bytes c.args.out.now) (string_bytes c.summarize.new.out) (string_bytes c.push-clauses.new.out) (summary (variables_of f) (length (clauses_of f))) (clause_texts (clauses_of f)) _
-    c.in-ok-summarize.ensures c.push-clauses.ensures refl
+    made_behind c.push_clauses.result (string_bytes c.args.out.now) (string_bytes c.summarize.new.out) (string_bytes c.push_clauses.new.out) (summary (variables_of f) (length (clauses_of f))) (clause_texts (clauses_of f)) _
+    c.in_ok-summarize.ensures c.push_clauses.ensures refl

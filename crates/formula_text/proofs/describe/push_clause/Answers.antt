@@ -7,6 +7,6 @@ use Rattle.formula_text.proofs.describe.push_clause.Goals as goal
 pub returns : goal.returns
 returns c =
     let ls = c.args.clause.now in
-    let r = c.write-str.result in
-    made_behind r _ (string_bytes c.push-literals.new.out) (string_bytes c.write-str.new.self) (literals_text ls) (codes "0\n") _
-    c.in-ok-push-literals.ensures (made_if r _ c.write-str.ensures.ok) (sym (clause_text_lem ls))
+    let r = c.write_str.result in
+    made_behind r _ (string_bytes c.push_literals.new.out) (string_bytes c.write_str.new.self) (literals_text ls) (codes "0\n") _
+    c.in_ok-push_literals.ensures (made_if r _ c.write_str.ensures.ok) (sym (clause_text_lem ls))

@@ -11,8 +11,8 @@ loop-k-preserved c =
     let k = c.loop-k.k in
     let l : k < length cs = omega (arith, c.count-k-end.ensures.is, c.loop-k-test.true) in
     let x = c.in-Some.clause.now in
-    text_more clause_text cs k _ (string_bytes c.push-clause.new.out) _ x [] l (numbered_at cs k x l c.in-Some.ensures.is)
-    c.loop-k.invariant c.in-ok-push-clause.ensures
+    text_more clause_text cs k _ (string_bytes c.push_clause.new.out) _ x [] l (numbered_at cs k x l c.in-Some.ensures.is)
+    c.loop-k.invariant c.in_ok-push_clause.ensures
 
 pub returns : goal.returns
 returns c =

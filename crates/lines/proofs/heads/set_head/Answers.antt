@@ -14,18 +14,18 @@ returns-in-Some c =
     let y : Entry = record { row = e.row; head = c.args.head } in
     let is = ap row_of (slot_some no_entry (slots_of f) i e c.in-Some.ensures).1 in
     record {
-      heads = ap (map head_of) c.set-slot.ensures.slots ∙ map-set head_of (slots_of f) i y;
-      rows = ap (map row_of) c.set-slot.ensures.list ∙ front_kept f.len (slots_of f) i y is;
-      slots = ap (map row_of) c.set-slot.ensures.slots ∙ rows_kept (slots_of f) i y is;
-      lender = c.set-slot.ensures.lender;
+      heads = ap (map head_of) c.set_slot.ensures.slots ∙ map-set head_of (slots_of f) i y;
+      rows = ap (map row_of) c.set_slot.ensures.list ∙ front_kept f.len (slots_of f) i y is;
+      slots = ap (map row_of) c.set_slot.ensures.slots ∙ rows_kept (slots_of f) i y is;
+      lender = c.set_slot.ensures.lender;
     }
 
-pub returns-in-default : goal.returns-in-default
-returns-in-default c =
+pub returns-in_default : goal.returns-in_default
+returns-in_default c =
     let f = c.args.entries.now in
     let i = c.args.i in
     record {
-      heads = sym (set_past (map head_of (slots_of f)) i c.args.head (simp length-map (slot_none (slots_of f) i c.in-default.ensures)));
+      heads = sym (set_past (map head_of (slots_of f)) i c.args.head (simp length-map (slot_none (slots_of f) i c.in_default.ensures)));
       rows = refl {a = map row_of (filled f)};
       slots = refl {a = map row_of (slots_of f)};
       lender = refl {a = f.slots.ghost_name};

@@ -8,4 +8,4 @@ pub returns-then-bytes-at-lt4 : goal.returns-then-bytes-at-lt4
 returns-then-bytes-at-lt4 c = field_cut c.args.bytes.now c.args.at 4 c.requires c.if-bytes-at-lt4.true
 
 pub returns : goal.returns
-returns c = (field_four c.args.bytes.now c.args.at (omega arith) ∙ ap (λ n. got n (drop (c.args.at + 4) c.args.bytes.now)) (sym c.four-bytes.ensures), omega arith)
+returns c = (field_four c.args.bytes.now c.args.at (omega arith) ∙ ap (λ n. got n (drop (c.args.at + 4) c.args.bytes.now)) (sym c.four_bytes.ensures), omega arith)

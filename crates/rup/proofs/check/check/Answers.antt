@@ -38,32 +38,32 @@ module _ (v : ℕ) (bytes : List ℕ) (K : Known) (l : Line) where
       single : twice l.literals ≡ false → (g : Gathered) → gather K 0 l.hints ≡ g → through l.literals g ≡ on_clean v bytes (verdict v K l)
       single e g q = ap (through l.literals) (sym q) ∙ sym (cond-false (twice l.literals) (Fails LineVariableTwice 0) (through l.literals (gather K 0 l.hints)) e) ∙ ranged
 
-pub returns-then-not-is-clean : goal.returns-then-not-is-clean
-returns-then-not-is-clean c =
+pub returns-then-not-is_clean : goal.returns-then-not-is_clean
+returns-then-not-is_clean c =
     let t = c.args.lines.now in
     let bs = bytes_of c.args.assignment.now in
     let l = line_of c.args.line in
     let is = c.variables-variables.ensures.is in
-    record { answer = dirty (variables_in t) bs (named_in t) l (ap (λ (v : ℕ). clean v bs) (sym is) ∙ sym c.if-not-is-clean.ensures.answer); bytes = c.is-clean.ensures.bytes; lender = c.is-clean.ensures.lender; laws = laws }
+    record { answer = dirty (variables_in t) bs (named_in t) l (ap (λ (v : ℕ). clean v bs) (sym is) ∙ sym c.if-not-is_clean.ensures.answer); bytes = c.is_clean.ensures.bytes; lender = c.is_clean.ensures.lender; laws = laws }
 
-pub returns-then-is-outside : goal.returns-then-is-outside
-returns-then-is-outside c =
+pub returns-then-is_outside : goal.returns-then-is_outside
+returns-then-is_outside c =
     let t = c.args.lines.now in
     let bs = bytes_of c.args.assignment.now in
     let l = line_of c.args.line in
     let is = c.variables-variables.ensures.is in
-    let ok = ap (λ (v : ℕ). clean v bs) (sym is) ∙ sym c.if-not-is-clean.ensures.answer in
-    record { answer = strange (variables_in t) bs (named_in t) l ok (ap (λ (v : ℕ). outside v l.literals) (sym is) ∙ sym c.if-is-outside.ensures); bytes = c.is-clean.ensures.bytes; lender = c.is-clean.ensures.lender; laws = laws }
+    let ok = ap (λ (v : ℕ). clean v bs) (sym is) ∙ sym c.if-not-is_clean.ensures.answer in
+    record { answer = strange (variables_in t) bs (named_in t) l ok (ap (λ (v : ℕ). outside v l.literals) (sym is) ∙ sym c.if-is_outside.ensures); bytes = c.is_clean.ensures.bytes; lender = c.is_clean.ensures.lender; laws = laws }
 
-pub returns-then-is-twice : goal.returns-then-is-twice
-returns-then-is-twice c =
+pub returns-then-is_twice : goal.returns-then-is_twice
+returns-then-is_twice c =
     let t = c.args.lines.now in
     let bs = bytes_of c.args.assignment.now in
     let l = line_of c.args.line in
     let is = c.variables-variables.ensures.is in
-    let ok = ap (λ (v : ℕ). clean v bs) (sym is) ∙ sym c.if-not-is-clean.ensures.answer in
-    let in-range = ap (λ (v : ℕ). outside v l.literals) (sym is) ∙ sym c.if-is-outside.ensures in
-    record { answer = doubled (variables_in t) bs (named_in t) l ok in-range (sym c.if-is-twice.ensures); bytes = c.is-clean.ensures.bytes; lender = c.is-clean.ensures.lender; laws = laws }
+    let ok = ap (λ (v : ℕ). clean v bs) (sym is) ∙ sym c.if-not-is_clean.ensures.answer in
+    let in-range = ap (λ (v : ℕ). outside v l.literals) (sym is) ∙ sym c.if-is_outside.ensures in
+    record { answer = doubled (variables_in t) bs (named_in t) l ok in-range (sym c.if-is_twice.ensures); bytes = c.is_clean.ensures.bytes; lender = c.is_clean.ensures.lender; laws = laws }
 
 pub returns-in-Some : goal.returns-in-Some
 returns-in-Some c =
@@ -71,10 +71,10 @@ returns-in-Some c =
     let bs = bytes_of c.args.assignment.now in
     let l = line_of c.args.line in
     let is = c.variables-variables.ensures.is in
-    let ok = ap (λ (v : ℕ). clean v bs) (sym is) ∙ sym c.if-not-is-clean.ensures.answer in
-    let in-range = ap (λ (v : ℕ). outside v l.literals) (sym is) ∙ sym c.if-is-outside.ensures in
+    let ok = ap (λ (v : ℕ). clean v bs) (sym is) ∙ sym c.if-not-is_clean.ensures.answer in
+    let in-range = ap (λ (v : ℕ). outside v l.literals) (sym is) ∙ sym c.if-is_outside.ensures in
     let g = gather (named_in t) 0 l.hints in
-    record { answer = single (variables_in t) bs (named_in t) l ok in-range (sym c.if-is-twice.ensures) (unknown c.in-Some.p) (one_unknown g c.in-Some.p c.in-Some.ensures); bytes = c.is-clean.ensures.bytes; lender = c.is-clean.ensures.lender; laws = laws }
+    record { answer = single (variables_in t) bs (named_in t) l ok in-range (sym c.if-is_twice.ensures) (unknown c.in-Some.p) (one_unknown g c.in-Some.p c.in-Some.ensures); bytes = c.is_clean.ensures.bytes; lender = c.is_clean.ensures.lender; laws = laws }
 
 pub propagate-requires : goal.propagate-requires
 propagate-requires c =
@@ -82,9 +82,9 @@ propagate-requires c =
     let bs = bytes_of c.args.assignment.now in
     let l = line_of c.args.line in
     let is = c.variables-variables.ensures.is in
-    let ok = ap (λ (v : ℕ). clean v bs) (sym is) ∙ sym c.if-not-is-clean.ensures.answer in
-    let in-range = ap (λ (v : ℕ). outside v l.literals) (sym is) ∙ sym c.if-is-outside.ensures in
-    record { clean = ap (clean (variables_in t)) c.is-clean.ensures.bytes ∙ ok; ranged = inside_ranged (variables_in t) l.literals in-range }
+    let ok = ap (λ (v : ℕ). clean v bs) (sym is) ∙ sym c.if-not-is_clean.ensures.answer in
+    let in-range = ap (λ (v : ℕ). outside v l.literals) (sym is) ∙ sym c.if-is_outside.ensures in
+    record { clean = ap (clean (variables_in t)) c.is_clean.ensures.bytes ∙ ok; ranged = inside_ranged (variables_in t) l.literals in-range }
 
 pub returns : goal.returns
 returns c =
@@ -92,12 +92,12 @@ returns c =
     let bs = bytes_of c.args.assignment.now in
     let l = line_of c.args.line in
     let is = c.variables-variables.ensures.is in
-    let ok = ap (λ (v : ℕ). clean v bs) (sym is) ∙ sym c.if-not-is-clean.ensures.answer in
-    let in-range = ap (λ (v : ℕ). outside v l.literals) (sym is) ∙ sym c.if-is-outside.ensures in
-    let f = all_found (gather (named_in t) 0 l.hints) c.in-default.ensures in
+    let ok = ap (λ (v : ℕ). clean v bs) (sym is) ∙ sym c.if-not-is_clean.ensures.answer in
+    let in-range = ap (λ (v : ℕ). outside v l.literals) (sym is) ∙ sym c.if-is_outside.ensures in
+    let f = all_found (gather (named_in t) 0 l.hints) c.in_default.ensures in
     record {
-      answer = c.propagate.ensures.answer f.0 f.1 ∙ single (variables_in t) bs (named_in t) l ok in-range (sym c.if-is-twice.ensures) (found f.0) f.1;
-      bytes = c.propagate.ensures.bytes ∙ c.is-clean.ensures.bytes;
-      lender = c.propagate.ensures.lender ∙ c.is-clean.ensures.lender;
+      answer = c.propagate.ensures.answer f.0 f.1 ∙ single (variables_in t) bs (named_in t) l ok in-range (sym c.if-is_twice.ensures) (found f.0) f.1;
+      bytes = c.propagate.ensures.bytes ∙ c.is_clean.ensures.bytes;
+      lender = c.propagate.ensures.lender ∙ c.is_clean.ensures.lender;
       laws = laws;
     }

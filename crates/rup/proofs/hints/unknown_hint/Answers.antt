@@ -6,12 +6,12 @@ use Rattle.rup.specs.Propagation.{gather, gathered, unknown_in}
 use Rattle.rup.proofs.Gathers.{known_one}
 use Rattle.rup.proofs.hints.unknown_hint.Goals as goal
 
-pub returns-in-default : goal.returns-in-default
-returns-in-default c =
+pub returns-in_default : goal.returns-in_default
+returns-in_default c =
     let K = named_in c.args.lines.now in
     let hs = c.args.hints.now in
     let p = c.loop-p.p in
-    ap (λ (o : Option Clause). unknown_in (gathered o (p + 1) (gather K (p + 1) (drop (p + 1) hs)))) c.in-default.ensures.is
+    ap (λ (o : Option Clause). unknown_in (gathered o (p + 1) (gather K (p + 1) (drop (p + 1) hs)))) c.in_default.ensures.is
     ∙ sym (at_drop_more (λ (r : List ℕ). unknown_in (gather K p r)) hs p 0 c.loop-p-test.true) ∙ c.loop-p.invariant
 
 pub loop-p-preserved : goal.loop-p-preserved

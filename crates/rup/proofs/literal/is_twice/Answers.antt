@@ -10,13 +10,13 @@ by_size : (l : ℤ) (n : ℕ) (ls : Clause) → n ≡ nat_abs l → has_variable
 by_size l n [] e = refl
 by_size l n (k ∷ ks) e = ap (λ (m : ℕ). eqb (nat_abs k) m || has_variable (pos n) ks) e ∙ ap (λ (b : Bool). eqb (nat_abs k) (nat_abs l) || b) (by_size l n ks e)
 
-pub returns-then-has-variable : goal.returns-then-has-variable
-returns-then-has-variable c =
+pub returns-then-has_variable : goal.returns-then-has_variable
+returns-then-has_variable c =
     let ls = c.args.literals.now in
     let i = c.loop-i.i in
     let z = get_or ls i (pos 0) in
-    let a : c.unsigned-abs.result ≡ nat_abs z = search (rules, to_z-of_z) in
-    let s : true ≡ has_variable z (drop (i + 1) ls) = c.if-has-variable.ensures ∙ ap (has_variable (pos c.unsigned-abs.result)) (take_rest ls (i + 1)) ∙ by_size z c.unsigned-abs.result (drop (i + 1) ls) a in
+    let a : c.unsigned_abs.result ≡ nat_abs z = search (rules, to_z-of_z) in
+    let s : true ≡ has_variable z (drop (i + 1) ls) = c.if-has_variable.ensures ∙ ap (has_variable (pos c.unsigned_abs.result)) (take_rest ls (i + 1)) ∙ by_size z c.unsigned_abs.result (drop (i + 1) ls) a in
     ap (λ (b : Bool). b || twice (drop (i + 1) ls)) s ∙ sym (at_drop_more twice ls i (pos 0) c.loop-i-test.true) ∙ c.loop-i.invariant
 
 pub loop-i-preserved : goal.loop-i-preserved
@@ -24,8 +24,8 @@ loop-i-preserved c =
     let ls = c.args.literals.now in
     let i = c.loop-i.i in
     let z = get_or ls i (pos 0) in
-    let a : c.unsigned-abs.result ≡ nat_abs z = search (rules, to_z-of_z) in
-    let s : false ≡ has_variable z (drop (i + 1) ls) = c.if-has-variable.ensures ∙ ap (has_variable (pos c.unsigned-abs.result)) (take_rest ls (i + 1)) ∙ by_size z c.unsigned-abs.result (drop (i + 1) ls) a in
+    let a : c.unsigned_abs.result ≡ nat_abs z = search (rules, to_z-of_z) in
+    let s : false ≡ has_variable z (drop (i + 1) ls) = c.if-has_variable.ensures ∙ ap (has_variable (pos c.unsigned_abs.result)) (take_rest ls (i + 1)) ∙ by_size z c.unsigned_abs.result (drop (i + 1) ls) a in
     ap (λ (b : Bool). b || twice (drop (i + 1) ls)) s ∙ sym (at_drop_more twice ls i (pos 0) c.loop-i-test.true) ∙ c.loop-i.invariant
 
 pub returns : goal.returns

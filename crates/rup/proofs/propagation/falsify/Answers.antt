@@ -17,7 +17,7 @@ loop-l-preserved c =
     let bs = c.loop-l.bytes in
     let z = get_or ls i (pos 0) in
     let e : to_z w32 (of_z w32 z) ≡ z = search (rules, to_z-of_z) in
-    let b = c.byte-of.ensures ∙ ap byte_of e in
+    let b = c.byte_of.ensures ∙ ap byte_of e in
     let s = shows_more v bs (take i ls) z (c.requires.ranged i c.loop-l-test.true) c.loop-l.invariant in
     let t = take_more ls i (pos 0) c.loop-l-test.true in
     subst (λ (k : ℕ). Shows v (set bs k 1) (take (i + 1) ls)) (sym b) (shows_as v (set bs (byte_of z) 1) (z ∷ take i ls) (take (i + 1) ls) (λ k. among_push k z (take i ls) ∙ ap (among k) (sym t)) s)

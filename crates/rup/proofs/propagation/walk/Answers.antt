@@ -18,15 +18,15 @@ told v bytes gs l b lit s e =
     let q = ap (λ (k : ℕ). get_or bytes k 0) e ∙ s.each l lit in
     (byte_zero (among l gs) (get_or bytes b 0) q, byte_set (among l gs) (get_or bytes b 0) q)
 
-pub literals-preserved-then-bytes-byte-of-ne0 : goal.literals-preserved-then-bytes-byte-of-ne0
-literals-preserved-then-bytes-byte-of-ne0 c =
+pub literals-preserved-then-bytes-byte_of-ne0 : goal.literals-preserved-then-bytes-byte_of-ne0
+literals-preserved-then-bytes-byte_of-ne0 c =
     let v = variables_in c.args.lines.now in
     let cl = c.in-Some.clause.now in
     let i = c.literals.l-index in
     let z = get_or cl i (pos 0) in
     let e : to_z w32 (of_z w32 z) ≡ z = search (rules, to_z-of_z) in
     let lit : LiteralOf v z = c.in-Some.ensures.limits i c.literals-test.true in
-    (c.literals.invariant.0, c.literals.invariant.1, λ gs s. left_skip gs cl i z c.literals-test.true refl c.literals.unit (c.literals.invariant.2 gs s) ((told v c.hints.bytes gs z c.byte-of.result lit s (c.byte-of.ensures ∙ ap byte_of e)).1 c.if-bytes-byte-of-ne0.true))
+    (c.literals.invariant.0, c.literals.invariant.1, λ gs s. left_skip gs cl i z c.literals-test.true refl c.literals.unit (c.literals.invariant.2 gs s) ((told v c.hints.bytes gs z c.byte_of.result lit s (c.byte_of.ensures ∙ ap byte_of e)).1 c.if-bytes-byte_of-ne0.true))
 
 pub literals-preserved : goal.literals-preserved
 literals-preserved c =
@@ -39,7 +39,7 @@ literals-preserved c =
       c.literals.invariant.0,
       subst (LiteralOf v) (sym e) lit,
       λ gs s.
-          left_first gs cl i z c.literals.unit c.in-None.is (left_take gs cl i z c.literals-test.true refl c.literals.unit (c.literals.invariant.2 gs s) ((told v c.hints.bytes gs z c.byte-of.result lit s (c.byte-of.ensures ∙ ap byte_of e)).0 c.if-bytes-byte-of-ne0.false))
+          left_first gs cl i z c.literals.unit c.in-None.is (left_take gs cl i z c.literals-test.true refl c.literals.unit (c.literals.invariant.2 gs s) ((told v c.hints.bytes gs z c.byte_of.result lit s (c.byte_of.ensures ∙ ap byte_of e)).0 c.if-bytes-byte_of-ne0.false))
           ∙ ap (λ (l : ℤ). l ∷ left gs (drop (i + 1) cl)) (sym e),
     )
 
@@ -54,7 +54,7 @@ hints-preserved c =
     let lit : LiteralOf v l = subst (SeenOf v) c.in-Some-unit-2.is c.literals.invariant.1 in
     let most : v ≤ 4096 = c.args.lines.now.formula.now.low in
     let low = lit.1 in
-    let b = c.byte-of-in-Some-unit-2.ensures ∙ ap byte_of (negated l (omega arith)) in (
+    let b = c.byte_of-in-Some-unit-2.ensures ∙ ap byte_of (negated l (omega arith)) in (
       c.literals.invariant.0,
       λ cs falses all s.
           let h = c.hints.invariant.1 cs falses all s in
@@ -72,8 +72,8 @@ returns-after-hints c = λ cs falses all s.
     let h = c.hints.invariant.1 cs falses all s in
     c.hints.invariant.0 ∙ sym (h.2 ∙ walk_end K c.args.hints.now cs h.0 c.hints.p all c.hints.auto.p-end c.hints-test.false)
 
-pub returns-in-default : goal.returns-in-default
-returns-in-default c = λ cs falses all s. absurd (no_hint (named_in c.args.lines.now) c.args.hints.now cs falses c.hints.p all c.hints-test.true c.in-default.ensures.is)
+pub returns-in_default : goal.returns-in_default
+returns-in_default c = λ cs falses all s. absurd (no_hint (named_in c.args.lines.now) c.args.hints.now cs falses c.hints.p all c.hints-test.true c.in_default.ensures.is)
 
 pub returns-in-Some-unit : goal.returns-in-Some-unit
 returns-in-Some-unit c = λ cs falses all s.
@@ -88,7 +88,7 @@ returns-in-Some-unit c = λ cs falses all s.
     let lit : LiteralOf v z = c.in-Some.ensures.limits i c.literals-test.true in
     let h = c.hints.invariant.1 cs falses all s in
     let gs = h.0 in
-    let two = left_take gs cl i z c.literals-test.true refl c.literals.unit (c.literals.invariant.2 gs h.1) ((told v c.hints.bytes gs z c.byte-of.result lit h.1 (c.byte-of.ensures ∙ ap byte_of e)).0 c.if-bytes-byte-of-ne0.false) in
+    let two = left_take gs cl i z c.literals-test.true refl c.literals.unit (c.literals.invariant.2 gs h.1) ((told v c.hints.bytes gs z c.byte_of.result lit h.1 (c.byte_of.ensures ∙ ap byte_of e)).0 c.if-bytes-byte_of-ne0.false) in
     sym (h.2 ∙ walk_at K hs cs gs p all cl c.hints-test.true c.in-Some.ensures.is ∙ left_second gs cl z c.literals.unit c.in-Some-unit.field-0 (left gs (drop (i + 1) cl)) (Follows (p + 1)) (λ k. walk (neg_ℤ k ∷ gs) (p + 1) (drop (p + 1) cs)) (Fails HintNotUnit (p + 1)) c.in-Some-unit.is two)
 
 pub returns-in-None-unit : goal.returns-in-None-unit

@@ -5,7 +5,7 @@ use Rattle.source_text.proofs.list.push_deletion.Goals as goal
 
 pub returns : goal.returns
 returns c =
-    three_behind (string_bytes c.args.out.now) (string_bytes c.write.new.self) (string_bytes c.push-numbers.new.out) (string_bytes c.write-str.new.self)
+    three_behind (string_bytes c.args.out.now) (string_bytes c.write.new.self) (string_bytes c.push_numbers.new.out) (string_bytes c.write_str.new.self)
     (codes "place=" ++ (decimal c.args.place ++ codes " 0 d ")) (numbers_text c.args.numbers.now) (codes "0\n")
-    c.in-ok-write.ensures.bytes c.in-ok-push-numbers.ensures (c.in-ok-write-str.ensures.ok refl)
+    c.in_ok-write.ensures.bytes c.in_ok-push_numbers.ensures (c.in_ok-write_str.ensures.ok refl)
     ∙ simp append_assoc

@@ -3,5 +3,5 @@ use Rattle.source_text.proofs.list.push_ending.Goals as goal
 
 pub returns : goal.returns
 returns c =
-    c.in-ok-writeln.ensures.bytes
+    c.in_ok-writeln.ensures.bytes
     ∙ ap (λ (n : ℕ). string_bytes c.args.out.now ++ (codes "ending number=" ++ (decimal n ++ (codes " place=" ++ (decimal c.args.ending.place ++ (10 ∷ [])))))) c.number-number.ensures

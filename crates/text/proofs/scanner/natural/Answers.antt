@@ -7,11 +7,11 @@ use Rattle.text.proofs.scanner.natural.Goals.{else-b-eq48-via-then-b-eq48+else-n
 pub returns-then-at-bytes : goal.returns-then-at-bytes
 returns-then-at-bytes c = nat_past c.args.bytes.now c.args.at c.if-at-bytes.true
 
-pub returns-then-not-is-digit : goal.returns-then-not-is-digit
-returns-then-not-is-digit c = nat_none c.args.bytes.now c.args.at c.if-at-bytes.false (sym c.if-not-is-digit.ensures)
+pub returns-then-not-is_digit : goal.returns-then-not-is_digit
+returns-then-not-is_digit c = nat_none c.args.bytes.now c.args.at c.if-at-bytes.false (sym c.if-not-is_digit.ensures)
 
-pub returns-in-default : goal.returns-in-default
-returns-in-default c = nat_digits_none c.args.bytes.now c.args.at c.if-at-bytes.false (sym c.if-not-is-digit.ensures) c.in-default.ensures
+pub returns-in_default : goal.returns-in_default
+returns-in_default c = nat_digits_none c.args.bytes.now c.args.at c.if-at-bytes.false (sym c.if-not-is_digit.ensures) c.in_default.ensures
 
 pub returns-then-next-at : goal.returns-then-next-at
 returns-then-next-at c = nat_zero_long c.args.bytes.now c.args.at c.if-at-bytes.false c.in-Some.n c.in-Some.next c.if-b-eq48.true c.in-Some.ensures (omega (arith, c.if-next-at.true))
@@ -25,4 +25,4 @@ returns-else-b-eq48 c =
       | else-b-eq48-via-then-b-eq48+else-next-at w ↦ λ z. omega (arith, w.if-next-at.false)
       | else-b-eq48-via-else-b-eq48 w ↦ λ z. absurd (w.if-b-eq48.false z)
     ] in
-    nat_sized bs at c.if-at-bytes.false c.in-Some.n c.in-Some.next (sym c.if-not-is-digit.ensures) s c.in-Some.ensures
+    nat_sized bs at c.if-at-bytes.false c.in-Some.n c.in-Some.next (sym c.if-not-is_digit.ensures) s c.in-Some.ensures

@@ -4,5 +4,5 @@ use Rattle.text.proofs.scanner.other_word.Goals as goal
 
 pub returns : goal.returns
 returns c =
-    let s = c.skip-word.ensures in
-    other c.args.bytes.now c.args.at c.requires.0 c.requires.1.0 c.requires.1.1 c.skip-word.result s.after s.inside s.rest
+    let s = c.skip_word.ensures in
+    other c.args.bytes.now c.args.at c.requires.0 c.requires.1.0 c.requires.1.1 c.skip_word.result s.after s.inside s.rest

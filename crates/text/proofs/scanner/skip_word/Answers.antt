@@ -6,12 +6,12 @@ use Rattle.text.proofs.scanner.skip_word.Goals as goal
 pub loop-i-preserved : goal.loop-i-preserved
 loop-i-preserved c = search (rules, word_on)
 
-pub returns-else-not-is-end : goal.returns-else-not-is-end
-returns-else-not-is-end c =
+pub returns-else-not-is_end : goal.returns-else-not-is_end
+returns-else-not-is_end c =
     let bs = c.args.bytes.now in
     let i = c.loop-i.i in
     record {
-      rest = sym (word_off bs i c.loop-i-test.true (sym c.if-not-is-end.ensures)) ∙ c.loop-i.invariant.0;
+      rest = sym (word_off bs i c.loop-i-test.true (sym c.if-not-is_end.ensures)) ∙ c.loop-i.invariant.0;
       after = c.loop-i.invariant.1;
       inside = c.loop-i.invariant.2;
     }

@@ -25,21 +25,21 @@ returns-in-Some-natural c =
     let m : get_or bs at 0 ≡ 45 → ⊥ = search rules in
     goes bs at h c.requires.1 _ (token_plain bs at h c.requires.1 m ∙ ap (unsigned w) n.is ∙ unsigned_is w c.in-Some-natural.n n.low) c.in-Some-natural.next n.rest n.after n.inside
 
-pub other-word-requires : goal.other-word-requires
-other-word-requires c =
+pub other_word-requires : goal.other_word-requires
+other_word-requires c =
     let bs = c.args.bytes.now in
     let at = c.args.at in
     let w = word_of (drop at bs) in
     (c.requires.0, (c.requires.1, token_minus bs at c.requires.0 c.in-45.is ∙ ap (negative w) c.in-Some.ensures.is ∙ negative_zero w c.in-Some.n c.if-n-gt0.false))
 
-pub other-word-requires-in-None : goal.other-word-requires-in-None
-other-word-requires-in-None c =
+pub other_word-requires-in-None : goal.other_word-requires-in-None
+other_word-requires-in-None c =
     let bs = c.args.bytes.now in
     let at = c.args.at in
     (c.requires.0, (c.requires.1, token_minus bs at c.requires.0 c.in-45.is ∙ ap (negative (word_of (drop at bs))) c.in-None.ensures))
 
-pub other-word-requires-in-None-natural : goal.other-word-requires-in-None-natural
-other-word-requires-in-None-natural c =
+pub other_word-requires-in-None-natural : goal.other_word-requires-in-None-natural
+other_word-requires-in-None-natural c =
     let bs = c.args.bytes.now in
     let at = c.args.at in
     let m : get_or bs at 0 ≡ 45 → ⊥ = search rules in

@@ -9,5 +9,5 @@ returns-then-next-at-ne1 c = long_word c.args.bytes.now c.args.at c.args.next c.
 pub returns-in-d : goal.returns-in-d
 returns-in-d c = letter_d c.args.bytes.now c.args.at c.args.next c.requires.0 c.requires.1 c.if-next-at-ne1.false c.in-d.is
 
-pub returns-in-default : goal.returns-in-default
-returns-in-default c = letter_other c.args.bytes.now c.args.at c.args.next c.requires.0 c.requires.1 c.if-next-at-ne1.false (λ e. omega arith)
+pub returns-in_default : goal.returns-in_default
+returns-in_default c = letter_other c.args.bytes.now c.args.at c.args.next c.requires.0 c.requires.1 c.if-next-at-ne1.false (λ e. omega arith)

@@ -7,8 +7,8 @@ use Rattle.formula.proofs.Elements.{all_put}
 use Rattle.formula.proofs.SpanParts.{inside_more, ranged_more}
 use Rattle.formula.proofs.formula.Formula.add.Goals as goal
 
-pub invariant-of-self : goal.invariant-of-self
-invariant-of-self c =
+pub invariant_of-self : goal.invariant_of-self
+invariant_of-self c =
     let f = c.args.self.now in
     let v = f.variables in
     let ls = filled f.literals in

@@ -14,8 +14,8 @@ use Rattle.lines.proofs.lines.Lines.add.Goals as goal
 same_row : (n a b k d e m l h : ℕ) → a ≡ b → d ≡ e → l ≡ h → ◌≡◌ {A = Row} (record { number = n; alive = true; literals = record { at = a; len = k }; hints = record { at = d; len = m }; link = l }) (record { number = n; alive = true; literals = record { at = b; len = k }; hints = record { at = e; len = m }; link = h })
 same_row n a b k d e m l h p q r = cc
 
-pub invariant-of-self : goal.invariant-of-self
-invariant-of-self c =
+pub invariant_of-self : goal.invariant_of-self
+invariant_of-self c =
     let t = c.args.self.now in
     let us = c.args.line.literals.now in
     let vs = c.args.line.hints.now in

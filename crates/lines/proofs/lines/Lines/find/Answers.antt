@@ -21,14 +21,14 @@ buckets t = bucket_of (length (clauses_of t.formula.now)) (length (heads_of t.en
 pub returns-then-entries-eq0 : goal.returns-then-entries-eq0
 returns-then-entries-eq0 c =
     let t = c.args.self.now in
-    let l = rows_length c.as-slice-entries.result.now (filled t.entries) c.as-slice-entries.ensures in
+    let l = rows_length c.as_slice-entries.result.now (filled t.entries) c.as_slice-entries.ensures in
     let z = c.if-entries-eq0.true in
     sym (named_none (filled t.literals) (filled t.hints) (rows_of t.entries) c.args.number (λ k q n. absurd (omega arith)))
 
 pub bucket-b-requires : goal.bucket-b-requires
 bucket-b-requires c =
     let t = c.args.self.now in
-    let l : length c.as-slice-entries.result.now ≡ length (filled t.entries) = ap length c.as-slice-entries.ensures in
+    let l : length c.as_slice-entries.result.now ≡ length (filled t.entries) = ap length c.as_slice-entries.ensures in
     let z = c.if-entries-eq0.false in
     let w = front_within t.entries.len t.entries.slots.now in
     let e = c.capacity.ensures in
@@ -42,15 +42,15 @@ head_is t o s b n h oe se be he =
 pub returns-then-t-entries : goal.returns-then-t-entries
 returns-then-t-entries c =
     let t = c.args.self.now in
-    let h = head_is t _ _ _ c.args.number c.head-at-t.result c.count.ensures.is c.capacity.ensures c.bucket-b.ensures.is c.head-at-t.ensures in
-    let l = rows_length c.as-slice-entries.result.now (filled t.entries) c.as-slice-entries.ensures in
-    let far : length (rows_of t.entries) ≤ get_or (heads_of t.entries) (buckets t c.args.number) 0 = subst (λ (k : ℕ). length (rows_of t.entries) ≤ k) h (subst (λ (k : ℕ). k ≤ c.head-at-t.result) (sym l) c.if-t-entries.true) in
+    let h = head_is t _ _ _ c.args.number c.head_at-t.result c.count.ensures.is c.capacity.ensures c.bucket-b.ensures.is c.head_at-t.ensures in
+    let l = rows_length c.as_slice-entries.result.now (filled t.entries) c.as_slice-entries.ensures in
+    let far : length (rows_of t.entries) ≤ get_or (heads_of t.entries) (buckets t c.args.number) 0 = subst (λ (k : ℕ). length (rows_of t.entries) ≤ k) h (subst (λ (k : ℕ). k ≤ c.head_at-t.result) (sym l) c.if-t-entries.true) in
     sym (named_none (filled t.literals) (filled t.hints) (rows_of t.entries) c.args.number (no_head (buckets t) (rows_of t.entries) c.args.number (heads_of t.entries) (index t).headed far))
 
 pub loop-entries-init : goal.loop-entries-init
 loop-entries-init c =
     let t = c.args.self.now in
-    let h = head_is t _ _ _ c.args.number c.head-at-t.result c.count.ensures.is c.capacity.ensures c.bucket-b.ensures.is c.head-at-t.ensures in
+    let h = head_is t _ _ _ c.args.number c.head_at-t.result c.count.ensures.is c.capacity.ensures c.bucket-b.ensures.is c.head_at-t.ensures in
     (c.if-t-entries.false, subst (Before (buckets t) (rows_of t.entries) c.args.number) (sym h) (from_head (buckets t) (rows_of t.entries) c.args.number (heads_of t.entries) (index t).headed))
 
 -- the row that the walk stands at
@@ -68,32 +68,32 @@ module _ (t : Lines) (es : List Entry) (is : es ≡ filled t.entries) (p n : ℕ
   unnamed : false ≡ ((get_or es p no_entry).row.alive && eqb (get_or es p no_entry).row.number n) → Names n (at (rows_of t.entries) p) → ⊥
   unnamed e h = both_ways _ (sym e) (subst (Names n) (sym row) h)
 
-pub returns-then-is-named : goal.returns-then-is-named
-returns-then-is-named c =
+pub returns-then-is_named : goal.returns-then-is_named
+returns-then-is_named c =
     let t = c.args.self.now in
     let p = c.loop-entries.t in
-    let es = c.as-slice-entries.result.now in
+    let es = c.as_slice-entries.result.now in
     let i = c.loop-entries.invariant in
-    let is = c.as-slice-entries.ensures in
-    sym (named_some (filled t.literals) (filled t.hints) (rows_of t.entries) c.args.number p (within t es is p 0 i.0) (named t es is p c.args.number i.0 c.if-is-named.ensures) (λ k q h. (i.1 k q h).0))
+    let is = c.as_slice-entries.ensures in
+    sym (named_some (filled t.literals) (filled t.hints) (rows_of t.entries) c.args.number p (within t es is p 0 i.0) (named t es is p c.args.number i.0 c.if-is_named.ensures) (λ k q h. (i.1 k q h).0))
 
 pub returns-then-row-t : goal.returns-then-row-t
 returns-then-row-t c =
     let t = c.args.self.now in
     let p = c.loop-entries.t in
-    let es = c.as-slice-entries.result.now in
+    let es = c.as_slice-entries.result.now in
     let i = c.loop-entries.invariant in
-    let is = c.as-slice-entries.ensures in
+    let is = c.as_slice-entries.ensures in
     let past : p ≤ (at (rows_of t.entries) p).link = subst (λ (r : Row). p ≤ r.link) (row t es is p 0 i.0) c.if-row-t.true in
-    sym (named_none (filled t.literals) (filled t.hints) (rows_of t.entries) c.args.number (ends (buckets t) (rows_of t.entries) c.args.number p (within t es is p 0 i.0) (unnamed t es is p c.args.number i.0 c.if-is-named.ensures) (index t).linked i.1 past))
+    sym (named_none (filled t.literals) (filled t.hints) (rows_of t.entries) c.args.number (ends (buckets t) (rows_of t.entries) c.args.number p (within t es is p 0 i.0) (unnamed t es is p c.args.number i.0 c.if-is_named.ensures) (index t).linked i.1 past))
 
 pub loop-entries-preserved : goal.loop-entries-preserved
 loop-entries-preserved c =
     let t = c.args.self.now in
     let p = c.loop-entries.t in
-    let es = c.as-slice-entries.result.now in
+    let es = c.as_slice-entries.result.now in
     let i = c.loop-entries.invariant in
-    let is = c.as-slice-entries.ensures in
+    let is = c.as_slice-entries.ensures in
     let low = i.0 in
     let l = c.if-row-t.false in
-    (omega arith, subst (λ (r : Row). Before (buckets t) (rows_of t.entries) c.args.number r.link) (sym (row t es is p 0 low)) (on (buckets t) (rows_of t.entries) c.args.number p (within t es is p 0 low) (unnamed t es is p c.args.number low c.if-is-named.ensures) (index t).linked i.1))
+    (omega arith, subst (λ (r : Row). Before (buckets t) (rows_of t.entries) c.args.number r.link) (sym (row t es is p 0 low)) (on (buckets t) (rows_of t.entries) c.args.number p (within t es is p 0 low) (unnamed t es is p c.args.number low c.if-is_named.ensures) (index t).linked i.1))

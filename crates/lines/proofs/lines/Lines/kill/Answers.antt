@@ -15,16 +15,16 @@ use Rattle.lines.proofs.Kills.{still, held_dead}
 use Rattle.lines.proofs.Naming.{place_within}
 use Rattle.lines.proofs.lines.Lines.kill.Goals as goal
 
-pub returns-in-default-get : goal.returns-in-default-get
-returns-in-default-get c =
+pub returns-in_default-get : goal.returns-in_default-get
+returns-in_default-get c =
     let t = c.args.self.now in
     let w = place_within c.args.number (held_in t) c.in-Some.t (sym c.in-Some.ensures) in
     let n : length (held_in t) ≡ length (filled t.entries) = length-map (rows_of t.entries) _ ∙ length-map (filled t.entries) row_of in
-    let l = slot_none (filled t.entries) c.in-Some.t c.in-default-get.ensures in
+    let l = slot_none (filled t.entries) c.in-Some.t c.in_default-get.ensures in
     absurd (omega arith)
 
-pub invariant-of-self : goal.invariant-of-self
-invariant-of-self c =
+pub invariant_of-self : goal.invariant_of-self
+invariant_of-self c =
     let t = c.args.self.now in
     let k = c.in-Some.t in
     let e = c.in-Some-get.e in

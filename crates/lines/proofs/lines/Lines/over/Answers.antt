@@ -3,5 +3,5 @@ use Rattle.lines.specs.Rows.{row_of}
 use Rattle.lines.proofs.Indexes.{no_line}
 use Rattle.lines.proofs.lines.Lines.over.Goals as goal
 
-pub invariant-of-result : goal.invariant-of-result
-invariant-of-result c = (no_line _ _ _ _ _ _ c.new.ensures.list c.new-2.ensures.list (ap (map row_of) c.new-3.ensures.list), tt)
+pub invariant_of-result : goal.invariant_of-result
+invariant_of-result c = (no_line _ _ _ _ _ _ c.new.ensures.list c.new-2.ensures.list (ap (map row_of) c.new-3.ensures.list), tt)

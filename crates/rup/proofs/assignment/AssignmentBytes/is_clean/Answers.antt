@@ -17,11 +17,11 @@ returns-then-n-self c =
     let z = each_zero (take n bs) (λ j q. let r : j < n = subst (λ (m : ℕ). j < m) (length-take-le n bs l) q in get_or-take n bs j 0 r ∙ a.zero j (omega arith)) in
     record { answer = sym (and_from (leb n (length bs)) (all_zero (take n bs)) (le-leb n (length bs) l) z); bytes = refl; lender = refl }
 
-pub invariant-of-self : goal.invariant-of-self
-invariant-of-self c =
+pub invariant_of-self : goal.invariant_of-self
+invariant_of-self c =
     let bs = bytes_of c.args.self.now in
     let n = 2 * c.args.variables in
     let q = c.if-len-variables.false in
     let e = c.len.ensures in
     let w : n ≤ length bs = omega arith in
-    (w, (λ k l. sym (get_or-take n bs k 0 l) ∙ zero_each (take n bs) (sym c.if-not-is-zero-to.ensures) k, tt))
+    (w, (λ k l. sym (get_or-take n bs k 0 l) ∙ zero_each (take n bs) (sym c.if-not-is_zero_to.ensures) k, tt))

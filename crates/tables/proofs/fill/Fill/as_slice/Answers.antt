@@ -2,8 +2,8 @@ use Rattle.std.proofs.Common.{◌≡◌, ℕ, ◌-◌, take, ap, ◌∙◌, arit
 use Rattle.tables.proofs.Fronts.{front_within, take_front}
 use Rattle.tables.proofs.fill.Fill.as_slice.Goals as goal
 
-pub slice-bounds-result-end : goal.slice-bounds-result-end
-slice-bounds-result-end g c =
+pub slice_bounds-result-end : goal.slice_bounds-result-end
+slice_bounds-result-end g c =
     let f = c.args.self.now in
     let w = front_within f.len f.slots.now in
     omega arith

@@ -6,10 +6,10 @@ use Rattle.tables.proofs.fill.Fill.get.Goals as goal
 
 pub returns-then-i-s : goal.returns-then-i-s
 returns-then-i-s g c =
-    let s = c.as-slice-s.result.now in
-    ap Some c.index-s-i.is ∙ sym (slice_get-get_or s c.args.i c.index-s-i.result c.if-i-s.true) ∙ ap (λ l. slice_get l c.args.i) c.as-slice-s.ensures
+    let s = c.as_slice-s.result.now in
+    ap Some c.index-s-i.is ∙ sym (slice_get-get_or s c.args.i c.index-s-i.result c.if-i-s.true) ∙ ap (λ l. slice_get l c.args.i) c.as_slice-s.ensures
 
 pub returns-else-i-s : goal.returns-else-i-s
 returns-else-i-s g c =
-    let s = c.as-slice-s.result.now in
-    sym (nth_past s c.args.i c.if-i-s.false) ∙ ap (λ l. slice_get l c.args.i) c.as-slice-s.ensures
+    let s = c.as_slice-s.result.now in
+    sym (nth_past s c.args.i c.if-i-s.false) ∙ ap (λ l. slice_get l c.args.i) c.as_slice-s.ensures

@@ -5,8 +5,8 @@ use Rattle.tables.specs.Filled.{filled}
 use Rattle.tables.proofs.Fronts.{front_within, set_front}
 use Rattle.tables.proofs.fill.Fill.set.Goals as goal
 
-pub offset-bounds-self-i : goal.offset-bounds-self-i
-offset-bounds-self-i g c =
+pub offset_bounds-self-i : goal.offset_bounds-self-i
+offset_bounds-self-i g c =
     let f = c.args.self.now in
     let w = front_within f.len f.slots.now in
     let k : c.args.i < length f.slots.now = omega arith in
