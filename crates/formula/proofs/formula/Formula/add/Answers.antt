@@ -25,4 +25,4 @@ invariant_of-self c =
     let few : length (filled c.push.new.self) ≤ 65536 = omega arith in
     let inside = subst (Inside (length (filled c.extend.new.self))) (sym q) (inside_more (length ls) _ ss s f.inside (omega arith) (omega arith)) in
     let ranged = subst (Ranged v) (sym p) (ranged_more v ls us f.ranged c.requires.ranged) in
-    (f.some, (f.low, (few, (inside, (ranged, tt)))))
+    record { some = f.some; low = f.low; few = few; inside = inside; ranged = ranged }

@@ -25,12 +25,11 @@ invariant_of-self c =
     let eh = all_put _ _ _ _ (filled t.hints ++ vs) (filled t.hints) c.extend-2.ensures.answer c.extend-2.ensures.list c.requires.hints in
     let n : length (filled t.entries) ≡ length (rows_of t.entries) = sym (length-map (filled t.entries) row_of) in
     let s : c.capacity.result ≡ length (heads_of t.entries) = c.capacity.ensures ∙ sym (length-map (slots_of t.entries) head_of) in
-    let mine : b ≡ bucket_of (length (clauses_of t.formula.now)) (length (heads_of t.entries)) x.number = c.bucket-b.ensures.is ∙ ap (λ (o : ℕ). bucket_of o c.capacity.result x.number) c.count.ensures.is ∙ ap (λ (k : ℕ). bucket_of (length (clauses_of t.formula.now)) k x.number) s in (
-      stored _ _ (filled t.literals) us (filled c.extend.new.self) (filled t.hints) vs (filled c.extend-2.new.self) (rows_of t.entries) (rows_of c.insert.new.entries) (heads_of t.entries) (heads_of c.insert.new.entries) b x
+    let mine : b ≡ bucket_of (length (clauses_of t.formula.now)) (length (heads_of t.entries)) x.number = c.bucket-b.ensures.is ∙ ap (λ (o : ℕ). bucket_of o c.capacity.result x.number) c.count.ensures.is ∙ ap (λ (k : ℕ). bucket_of (length (clauses_of t.formula.now)) k x.number) s in record {
+      indexed = stored _ _ (filled t.literals) us (filled c.extend.new.self) (filled t.hints) vs (filled c.extend-2.new.self) (rows_of t.entries) (rows_of c.insert.new.entries) (heads_of t.entries) (heads_of c.insert.new.entries) b x
           (index t) el eh c.insert.ensures.rows (c.insert.ensures.heads ∙ ap (set (heads_of t.entries) b) n) c.len.ensures refl c.len-2.ensures refl refl c.requires.ranged
-          (subst (λ (k : ℕ). b < k) s c.bucket-b.ensures.low) mine,
-      tt,
-    )
+          (subst (λ (k : ℕ). b < k) s c.bucket-b.ensures.low) mine;
+    }
 
 pub returns : goal.returns
 returns c =

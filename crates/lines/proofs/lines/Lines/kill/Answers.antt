@@ -36,12 +36,11 @@ invariant_of-self c =
     let put : slots_of c.set.new.self ≡ set (slots_of t.entries) k x = c.set.ensures.slots ∙ cond-true c.set.result _ _ (c.set.ensures.answer ∙ lt-ltb k (length (filled t.entries)) r.0) in
     let heads : heads_of c.set.new.self ≡ heads_of t.entries = ap (map head_of) put ∙ heads_kept k (slots_of t.entries) x slots.0 (ap head_of slots.1) in
     let v = variables_of t.formula.now in
-    let o = length (clauses_of t.formula.now) in (
-      subst (λ (rs : List Row). ∥ Indexed v o (filled t.literals) (filled t.hints) rs (heads_of c.set.new.self) ∥₁) (sym rows)
+    let o = length (clauses_of t.formula.now) in record {
+      indexed = subst (λ (rs : List Row). ∥ Indexed v o (filled t.literals) (filled t.hints) rs (heads_of c.set.new.self) ∥₁) (sym rows)
           (subst (λ (tops : List ℕ). ∥ Indexed v o (filled t.literals) (filled t.hints) (set (rows_of t.entries) k (dead_row (at (rows_of t.entries) k))) tops ∥₁) (sym heads)
-          ∣ still (rows_of t.entries) k low v o (filled t.literals) (filled t.hints) (heads_of t.entries) (index t) ∣₁),
-      tt,
-    )
+          ∣ still (rows_of t.entries) k low v o (filled t.literals) (filled t.hints) (heads_of t.entries) (index t) ∣₁);
+    }
 
 after_kill : {o : Option ℕ} {t : ℕ} {a b : Lines} → Some t ≡ o → Killed a b t → AfterKill o a b
 after_kill {o} {t} {a} {b} e h = subst (λ (o : Option ℕ). AfterKill o a b) e h

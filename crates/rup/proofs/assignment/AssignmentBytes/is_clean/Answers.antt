@@ -24,4 +24,4 @@ invariant_of-self c =
     let q = c.if-len-variables.false in
     let e = c.len.ensures in
     let w : n ≤ length bs = omega arith in
-    (w, (λ k l. sym (get_or-take n bs k 0 l) ∙ zero_each (take n bs) (sym c.if-not-is_zero_to.ensures) k, tt))
+    record { within = w; zero = λ k l. sym (get_or-take n bs k 0 l) ∙ zero_each (take n bs) (sym c.if-not-is_zero_to.ensures) k }
