@@ -67,16 +67,16 @@ fn empty_clauses(heap: Global, o: usize, n: usize) -> Result<String, AllocError>
     Ok(text)
 }
 
-fn expect_long(rt: &impl Abort, heap: Global, c: Long) -> Result<(), Fail> {
+fn expect_long(rt: &impl Abort, case: usize, heap: Global, c: Long) -> Result<(), Fail> {
     let Long(n, rest, number, line) = c;
     let text = long_clause(heap, n, rest)?;
-    expect(rt, text.as_bytes(), number, line)
+    expect(rt, case, text.as_bytes(), number, line)
 }
 
 #[test]
 fn many_literals(rt: HostRuntime) -> Result<(), Fail> {
     for (i, c) in LONG.iter().enumerate() {
-        expect_long(&rt, rt.alloc(), *c).note(format_args!("case {i}"))?;
+        expect_long(&rt, i, rt.alloc(), *c)?;
     }
     Ok(())
 }
@@ -103,15 +103,15 @@ fn all_literals(rt: HostRuntime) -> Result<(), Fail> {
     in_a_row(&rt, &f)
 }
 
-fn expect_many(rt: &impl Abort, heap: Global, c: Many) -> Result<(), Fail> {
+fn expect_many(rt: &impl Abort, case: usize, heap: Global, c: Many) -> Result<(), Fail> {
     let Many(o, n, entries, number, line) = c;
     let text = empty_clauses(heap, o, n)?;
     let mut literals = [LITERAL; 0];
     let mut spans = vec![in heap; SPAN; entries]?;
     let found = answer(text.as_bytes(), &mut literals, spans.as_mut_slice());
-    assert_eq!(rt; found, (number, 0, line, 0));
+    assert_eq!(rt; found, (number, 0, line, 0), "case {case}");
     for s in spans.iter() {
-        assert_eq!(rt; (s.at, s.len), (7, 7));
+        assert_eq!(rt; (s.at, s.len), (7, 7), "case {case}");
     }
     Ok(())
 }
@@ -119,7 +119,7 @@ fn expect_many(rt: &impl Abort, heap: Global, c: Many) -> Result<(), Fail> {
 #[test]
 fn many_clauses(rt: HostRuntime) -> Result<(), Fail> {
     for (i, c) in MANY.iter().enumerate() {
-        expect_many(&rt, rt.alloc(), *c).note(format_args!("case {i}"))?;
+        expect_many(&rt, i, rt.alloc(), *c)?;
     }
     Ok(())
 }

@@ -27,13 +27,19 @@ pub(crate) fn answer(
 }
 
 /// The text is refused so, and every slot of the tables stays.
-pub(crate) fn expect(rt: &impl Abort, text: &[u8], number: u8, line: usize) -> Result<(), Fail> {
+pub(crate) fn expect(
+    rt: &impl Abort,
+    case: usize,
+    text: &[u8],
+    number: u8,
+    line: usize,
+) -> Result<(), Fail> {
     let mut literals = [LITERAL; 80];
     let mut spans = [SPAN; 8];
     let found = answer(text, &mut literals, &mut spans);
-    assert_eq!(rt; found, (number, 0, line, 0));
-    assert_eq!(rt; literals, [LITERAL; 80]);
-    assert_eq!(rt; spans, [SPAN; 8]);
+    assert_eq!(rt; found, (number, 0, line, 0), "case {case}");
+    assert_eq!(rt; literals, [LITERAL; 80], "case {case}");
+    assert_eq!(rt; spans, [SPAN; 8], "case {case}");
     Ok(())
 }
 
@@ -41,7 +47,7 @@ pub(crate) fn expect(rt: &impl Abort, text: &[u8], number: u8, line: usize) -> R
 pub(crate) fn expect_all(rt: &impl Abort, cases: &[Case]) -> Result<(), Fail> {
     for (i, c) in cases.iter().enumerate() {
         let Case(text, number, line) = *c;
-        expect(rt, text, number, line).note(format_args!("case {i}"))?;
+        expect(rt, i, text, number, line)?;
     }
     Ok(())
 }

@@ -91,33 +91,40 @@ fn flat(heap: Global, f: &Formula) -> Result<Vec<i32>, Fail> {
 /// The formula holds this, and no clause 0 and none behind the last.
 pub(crate) fn holds(
     rt: &impl Abort,
+    case: usize,
     heap: Global,
     f: &Formula,
     content: Content,
 ) -> Result<(), Fail> {
     let Content(variables, count, clauses) = content;
-    assert_eq!(rt; f.variables(), variables);
-    assert_eq!(rt; f.count(), count);
-    assert!(rt; f.clause(0).is_none());
-    assert!(rt; f.clause(f.count() + 1).is_none());
-    assert!(rt; f.clause(usize::MAX).is_none());
+    assert_eq!(rt; f.variables(), variables, "case {case}");
+    assert_eq!(rt; f.count(), count, "case {case}");
+    assert!(rt; f.clause(0).is_none(), "case {case}");
+    assert!(rt; f.clause(f.count() + 1).is_none(), "case {case}");
+    assert!(rt; f.clause(usize::MAX).is_none(), "case {case}");
     let all = flat(heap, f)?;
-    assert_eq!(rt; all.as_slice(), clauses);
+    assert_eq!(rt; all.as_slice(), clauses, "case {case}");
     Ok(())
 }
 
-fn expect_good(rt: &impl Abort, heap: Global, text: &[u8], content: Content) -> Result<(), Fail> {
+fn expect_good(
+    rt: &impl Abort,
+    case: usize,
+    heap: Global,
+    text: &[u8],
+    content: Content,
+) -> Result<(), Fail> {
     let mut literals = [LITERAL; 16];
     let mut spans = [SPAN; 8];
     let mut f = Formula::over(&mut literals, &mut spans);
     f.read(text)?;
-    holds(rt, heap, &f, content)
+    holds(rt, case, heap, &f, content)
 }
 
 fn expect_goods(rt: &impl Abort, heap: Global, cases: &[Good]) -> Result<(), Fail> {
     for (i, c) in cases.iter().enumerate() {
         let Good(text, content) = *c;
-        expect_good(rt, heap, text, content).note(format_args!("case {i}"))?;
+        expect_good(rt, i, heap, text, content)?;
     }
     Ok(())
 }

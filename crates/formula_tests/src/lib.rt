@@ -1,5 +1,6 @@
 //! Tests of the formula reader, case by case, and of the refusal numbers.
 #![tactic(auto)]
+
 #[cfg(test)]
 mod bounds;
 #[cfg(test)]

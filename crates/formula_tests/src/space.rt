@@ -58,39 +58,45 @@ static STEPS: [Step; 11] = [
     Step(TEXT, 0, THREE),
 ];
 
-fn expect_room(rt: &impl Abort, r: Room) -> Result<(), Fail> {
+fn expect_room(rt: &impl Abort, case: usize, r: Room) -> Result<(), Fail> {
     let Room(text, slots, entries, number, line) = r;
     let mut literals = [LITERAL; 4];
     let mut spans = [SPAN; 4];
-    assert!(rt; slots <= 4);
-    assert!(rt; entries <= 4);
+    assert!(rt; slots <= 4, "case {case}");
+    assert!(rt; entries <= 4, "case {case}");
     let found = answer(text, &mut literals[0..slots], &mut spans[0..entries]);
-    assert_eq!(rt; found, (number, 0, line, 0));
+    assert_eq!(rt; found, (number, 0, line, 0), "case {case}");
     if number == 0 {
         return Ok(());
     }
-    assert_eq!(rt; literals, [LITERAL; 4]);
-    assert_eq!(rt; spans, [SPAN; 4]);
+    assert_eq!(rt; literals, [LITERAL; 4], "case {case}");
+    assert_eq!(rt; spans, [SPAN; 4], "case {case}");
     Ok(())
 }
 
 #[test]
 fn rooms(rt: HostRuntime) -> Result<(), Fail> {
     for (i, r) in ROOMS.iter().enumerate() {
-        expect_room(&rt, *r).note(format_args!("case {i}"))?;
+        expect_room(&rt, i, *r)?;
     }
     Ok(())
 }
 
 // The text is read or refused with this number, and the formula then holds the content.
-fn expect_step(rt: &impl Abort, heap: Global, f: &mut Formula, s: Step) -> Result<(), Fail> {
+fn expect_step(
+    rt: &impl Abort,
+    case: usize,
+    heap: Global,
+    f: &mut Formula,
+    s: Step,
+) -> Result<(), Fail> {
     let Step(text, number, content) = s;
     let found = match f.read(text) {
         Ok(()) => 0,
         Err(e) => e.fault.number(),
     };
-    assert_eq!(rt; found, number);
-    holds(rt, heap, f, content)
+    assert_eq!(rt; found, number, "step {case}");
+    holds(rt, case, heap, f, content)
 }
 
 #[test]
@@ -99,7 +105,7 @@ fn several_texts(rt: HostRuntime) -> Result<(), Fail> {
     let mut spans = [SPAN; 3];
     let mut f = Formula::over(&mut literals, &mut spans);
     for (i, s) in STEPS.iter().enumerate() {
-        expect_step(&rt, rt.alloc(), &mut f, *s).note(format_args!("step {i}"))?;
+        expect_step(&rt, i, rt.alloc(), &mut f, *s)?;
     }
     Ok(())
 }

@@ -23,24 +23,24 @@ static CASES: [Case; 11] = [
     Case(10, 99, 0, 2),
 ];
 
-fn expect(rt: &impl Abort, c: Case) -> Result<(), Fail> {
+fn expect(rt: &impl Abort, case: usize, c: Case) -> Result<(), Fail> {
     let Case(length, at, number, hint) = c;
     let mut bytes = [0u8; 10];
     if at < 10 {
         bytes[at] = 1;
     }
     let before = bytes;
-    assert!(rt; length <= 10);
+    assert!(rt; length <= 10, "case {case}");
     let found = verdict_on(SAMPLE, &[1], &[1, 2], &mut bytes[0..length]);
-    assert!(rt; found == Some((number, hint)));
-    assert_eq!(rt; bytes, before);
+    assert!(rt; found == Some((number, hint)), "case {case}");
+    assert_eq!(rt; bytes, before, "case {case}");
     Ok(())
 }
 
 #[test]
 fn dirt(rt: HostRuntime) -> Result<(), Fail> {
     for (i, c) in CASES.iter().enumerate() {
-        expect(&rt, *c).note(format_args!("case {i}"))?;
+        expect(&rt, i, *c)?;
     }
     Ok(())
 }

@@ -1,5 +1,6 @@
 //! Tests of lines and their check: verdicts, offers, and lines found by number.
 #![tactic(auto)]
+
 #[cfg(test)]
 mod bytes;
 #[cfg(test)]

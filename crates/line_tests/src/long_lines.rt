@@ -22,7 +22,7 @@ static LITERALS: [Literals; 5] = [
     Literals(62, 27, 1),
 ];
 
-fn expect_literals(rt: &impl Abort, c: Literals) -> Result<(), Fail> {
+fn expect_literals(rt: &impl Abort, case: usize, c: Literals) -> Result<(), Fail> {
     let Literals(count, number, hint) = c;
     let mut literals = [0i32; 100];
     let mut next = 1;
@@ -32,17 +32,17 @@ fn expect_literals(rt: &impl Abort, c: Literals) -> Result<(), Fail> {
             next += 1;
         }
     }
-    assert!(rt; count <= 100);
+    assert!(rt; count <= 100, "case {case}");
     let mut bytes = [0u8; 200];
     let found = verdict_on(CLAUSE, &literals[0..count], &[1], &mut bytes);
-    assert!(rt; found == Some((number, hint)));
+    assert!(rt; found == Some((number, hint)), "case {case}");
     Ok(())
 }
 
 #[test]
 fn many_literals(rt: HostRuntime) -> Result<(), Fail> {
     for (i, c) in LITERALS.iter().enumerate() {
-        expect_literals(&rt, *c).note(format_args!("case {i}"))?;
+        expect_literals(&rt, i, *c)?;
     }
     Ok(())
 }
@@ -60,9 +60,9 @@ static HINTS: [Hints; 6] = [
     Hints(299, true, 0, 300),
 ];
 
-fn expect_hints(rt: &impl Abort, c: Hints) -> Result<(), Fail> {
+fn expect_hints(rt: &impl Abort, case: usize, c: Hints) -> Result<(), Fail> {
     let Hints(count, opposite, number, hint) = c;
-    assert!(rt; count < 300);
+    assert!(rt; count < 300, "case {case}");
     let mut hints = [1u32; 300];
     let mut end = count;
     if opposite {
@@ -71,14 +71,14 @@ fn expect_hints(rt: &impl Abort, c: Hints) -> Result<(), Fail> {
     }
     let mut bytes = [0u8; 4];
     let found = verdict_on(PAIR, &[2], &hints[0..end], &mut bytes);
-    assert!(rt; found == Some((number, hint)));
+    assert!(rt; found == Some((number, hint)), "case {case}");
     Ok(())
 }
 
 #[test]
 fn many_hints(rt: HostRuntime) -> Result<(), Fail> {
     for (i, c) in HINTS.iter().enumerate() {
-        expect_hints(&rt, *c).note(format_args!("case {i}"))?;
+        expect_hints(&rt, i, *c)?;
     }
     Ok(())
 }

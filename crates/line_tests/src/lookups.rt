@@ -73,7 +73,7 @@ static STEPS: [Step; 49] = [
     Step::Find(6, None),
 ];
 
-fn expect(rt: &impl Abort, lines: &mut Lines, s: Step) -> Result<(), Fail> {
+fn expect(rt: &impl Abort, case: usize, lines: &mut Lines, s: Step) -> Result<(), Fail> {
     match s {
         Step::Store(number, stored) => {
             let line = Addition {
@@ -81,20 +81,20 @@ fn expect(rt: &impl Abort, lines: &mut Lines, s: Step) -> Result<(), Fail> {
                 literals: &[1],
                 hints: &[],
             };
-            assert_eq!(rt; lines.store(line), stored);
+            assert_eq!(rt; lines.store(line), stored, "step {case}");
             Ok(())
         }
         Step::Kill(number, alive) => {
-            assert_eq!(rt; lines.kill(number), alive);
+            assert_eq!(rt; lines.kill(number), alive, "step {case}");
             Ok(())
         },
         Step::Find(number, place) => {
-            assert!(rt; lines.find(number) == place);
+            assert!(rt; lines.find(number) == place, "step {case}");
             Ok(())
         },
         Step::Clear => {
             lines.clear();
-            assert_eq!(rt; lines.count(), 0);
+            assert_eq!(rt; lines.count(), 0, "step {case}");
             Ok(())
         }
     }
@@ -111,7 +111,7 @@ fn buckets(rt: HostRuntime) -> Result<(), Fail> {
     let mut entries = [ENTRY; 8];
     let mut lines = Lines::over(&formula, &mut literals, &mut hints, &mut entries);
     for (i, s) in STEPS.iter().enumerate() {
-        expect(&rt, &mut lines, *s).note(format_args!("step {i}"))?;
+        expect(&rt, i, &mut lines, *s)?;
     }
     assert_eq!(rt; lines.count(), 1);
     Ok(())

@@ -95,7 +95,7 @@ static SPACES: [Space; 8] = [
     Space(0, 0, 0, &[1, 2, 9], 26),
 ];
 
-fn expect_space(rt: &impl Abort, s: Space) -> Result<(), Fail> {
+fn expect_space(rt: &impl Abort, case: usize, s: Space) -> Result<(), Fail> {
     let Space(rows, slots, places, named, number) = s;
     let mut table = [0i32; 12];
     let mut spans = [SPAN; 5];
@@ -104,7 +104,7 @@ fn expect_space(rt: &impl Abort, s: Space) -> Result<(), Fail> {
     let mut literals = [77i32; 2];
     let mut hints = [77u32; 3];
     let mut entries = [ENTRY; 2];
-    assert!(rt; rows <= 2 && slots <= 2 && places <= 3);
+    assert!(rt; rows <= 2 && slots <= 2 && places <= 3, "case {case}");
     let mut lines = Lines::over(
         &formula,
         &mut literals[0..slots],
@@ -115,21 +115,21 @@ fn expect_space(rt: &impl Abort, s: Space) -> Result<(), Fail> {
     let mut assignment = AssignmentBytes::over(&mut bytes);
     let o = Offer(6, 6, &[1], named, (0, 0, 0, 0));
     let found = answer(&mut lines, &mut assignment, o);
-    assert_eq!(rt; found.0, number);
+    assert_eq!(rt; found.0, number, "case {case}");
     if number == 0 {
-        assert_eq!(rt; lines.count(), 1);
+        assert_eq!(rt; lines.count(), 1, "case {case}");
         return Ok(());
     }
-    assert_eq!(rt; lines.count(), 0);
-    assert_eq!(rt; literals, [77; 2]);
-    assert_eq!(rt; hints, [77; 3]);
+    assert_eq!(rt; lines.count(), 0, "case {case}");
+    assert_eq!(rt; literals, [77; 2], "case {case}");
+    assert_eq!(rt; hints, [77; 3], "case {case}");
     Ok(())
 }
 
 #[test]
 fn spaces(rt: HostRuntime) -> Result<(), Fail> {
     for (i, s) in SPACES.iter().enumerate() {
-        expect_space(&rt, *s).note(format_args!("case {i}"))?;
+        expect_space(&rt, i, *s)?;
     }
     Ok(())
 }

@@ -76,6 +76,7 @@ fn look_in<S: Source>(
 
 fn expect_room<S: Source>(
     rt: &impl Abort,
+    case: usize,
     source: &S,
     room: Room,
     first: [usize; 5],
@@ -87,24 +88,24 @@ fn expect_room<S: Source>(
     let mut front_hints = [HINT; 260];
     let found = look_in(rt, source, &mut literals, &mut hints, a, b);
     if refused {
-        assert_eq!(rt; found, [3, 7, 0, 0, 0]);
+        assert_eq!(rt; found, [3, 7, 0, 0, 0], "room {case}");
     } else {
-        assert_eq!(rt; found, first);
+        assert_eq!(rt; found, first, "room {case}");
         front[0] = 1;
         front[1] = -2;
         front_hints[0] = 3;
         front_hints[1] = 4;
         front_hints[2] = 5;
     }
-    assert_eq!(rt; literals, front);
-    assert_eq!(rt; hints, front_hints);
+    assert_eq!(rt; literals, front, "room {case}");
+    assert_eq!(rt; hints, front_hints, "room {case}");
     Ok(())
 }
 
 // Every look is at the same first item; what lies behind it in the buffers stays.
 fn expect_rooms<S: Source>(rt: &impl Abort, source: &S, first: [usize; 5]) -> Result<(), Fail> {
     for (i, room) in ROOMS.iter().enumerate() {
-        expect_room(rt, source, *room, first).note(format_args!("room {i}"))?;
+        expect_room(rt, i, source, *room, first)?;
     }
     Ok(())
 }
@@ -127,15 +128,21 @@ fn unmarked(r: Result<(Head, Mark), Refusal>) -> Result<Head, Refusal> {
     }
 }
 
-fn fetch_short<M: Marked>(rt: &impl Abort, source: &M, a: usize, b: usize) -> Result<(), Fail> {
+fn fetch_short<M: Marked>(
+    rt: &impl Abort,
+    case: usize,
+    source: &M,
+    a: usize,
+    b: usize,
+) -> Result<(), Fail> {
     let mut literals = [LITERAL; 70];
     let mut hints = [HINT; 260];
-    assert!(rt; a <= 70);
-    assert!(rt; b <= 260);
+    assert!(rt; a <= 70, "room {case}");
+    assert!(rt; b <= 260, "room {case}");
     let found = unmarked(source.fetch(&mut literals[0..a], &mut hints[0..b]));
-    assert_eq!(rt; looked(found), [3, 7, 0, 0, 0]);
-    assert_eq!(rt; literals, [LITERAL; 70]);
-    assert_eq!(rt; hints, [HINT; 260]);
+    assert_eq!(rt; looked(found), [3, 7, 0, 0, 0], "room {case}");
+    assert_eq!(rt; literals, [LITERAL; 70], "room {case}");
+    assert_eq!(rt; hints, [HINT; 260], "room {case}");
     Ok(())
 }
 
@@ -144,8 +151,8 @@ fn fetches_short(rt: HostRuntime) -> Result<(), Fail> {
     for (i, room) in ROOMS.iter().enumerate() {
         let Room(a, b, refused) = *room;
         if refused {
-            fetch_short(&rt, &TextSource::new(TEXT), a, b).note(format_args!("room {i}"))?;
-            fetch_short(&rt, &RecordSource::new(FILE), a, b).note(format_args!("room {i}"))?;
+            fetch_short(&rt, i, &TextSource::new(TEXT), a, b)?;
+            fetch_short(&rt, i, &RecordSource::new(FILE), a, b)?;
         }
     }
     Ok(())
@@ -199,21 +206,23 @@ fn turn<S: Source>(rt: &impl Abort, source: &mut S, row: Row, i: usize) -> Resul
     let mut hints = [HINT; 256];
     assert_eq!(rt;
         looked(source.look(&mut literals, &mut hints)),
-        of_turn(row, i)
+        of_turn(row, i),
+        "turn {i}"
     );
     assert_eq!(rt;
         looked(source.look(&mut literals, &mut hints)),
-        of_turn(row, i)
+        of_turn(row, i),
+        "turn {i}"
     );
-    assert_eq!(rt; literals, literals_of(i));
-    assert_eq!(rt; hints, hints_of(i));
-    assert_eq!(rt; stepped(source.step()), of_step(row, i));
+    assert_eq!(rt; literals, literals_of(i), "turn {i}");
+    assert_eq!(rt; hints, hints_of(i), "turn {i}");
+    assert_eq!(rt; stepped(source.step()), of_step(row, i), "turn {i}");
     Ok(())
 }
 
 fn turns<S: Source>(rt: &impl Abort, source: &mut S, row: Row) -> Result<(), Fail> {
     for i in 0..8 {
-        turn(rt, source, row, i).note(format_args!("turn {i}"))?;
+        turn(rt, source, row, i)?;
     }
     Ok(())
 }
@@ -242,22 +251,22 @@ fn fetch_turn<M: Marked>(rt: &impl Abort, source: &mut M, row: Row, i: usize) ->
     let mut by_look = [LITERAL; 64];
     let mut hints_by_look = [HINT; 256];
     let found = source.look(&mut by_look, &mut hints_by_look);
-    assert_eq!(rt; looked(found), of_turn(row, i));
+    assert_eq!(rt; looked(found), of_turn(row, i), "turn {i}");
     match source.fetch(&mut literals, &mut hints) {
         Ok((head, mark)) => {
-            assert_eq!(rt; looked(Ok(head)), of_turn(row, i));
+            assert_eq!(rt; looked(Ok(head)), of_turn(row, i), "turn {i}");
             source.pass(mark);
         }
-        Err(e) => assert_eq!(rt; looked(Err(e)), of_turn(row, i)),
+        Err(e) => assert_eq!(rt; looked(Err(e)), of_turn(row, i), "turn {i}"),
     }
-    assert_eq!(rt; literals, by_look);
-    assert_eq!(rt; hints, hints_by_look);
+    assert_eq!(rt; literals, by_look, "turn {i}");
+    assert_eq!(rt; hints, hints_by_look, "turn {i}");
     Ok(())
 }
 
 fn fetch_turns<M: Marked>(rt: &impl Abort, source: &mut M, row: Row) -> Result<(), Fail> {
     for i in 0..6 {
-        fetch_turn(rt, source, row, i).note(format_args!("turn {i}"))?;
+        fetch_turn(rt, source, row, i)?;
     }
     Ok(())
 }
@@ -283,13 +292,13 @@ fn take_turn<M: Marked>(rt: &impl Abort, source: &mut M, row: Row, i: usize) -> 
     let mut literals = [LITERAL; 64];
     let mut hints = [HINT; 256];
     let found = take_first(source, &mut literals, &mut hints);
-    assert_eq!(rt; looked(found), of_turn(row, i));
+    assert_eq!(rt; looked(found), of_turn(row, i), "turn {i}");
     Ok(())
 }
 
 fn take_turns<M: Marked>(rt: &impl Abort, source: &mut M, row: Row) -> Result<(), Fail> {
     for i in 0..6 {
-        take_turn(rt, source, row, i).note(format_args!("turn {i}"))?;
+        take_turn(rt, source, row, i)?;
     }
     Ok(())
 }

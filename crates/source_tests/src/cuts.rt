@@ -33,7 +33,7 @@ fn cuts(rt: HostRuntime) -> Result<(), Fail> {
     assert!(rt; file.len() == 35);
     for n in 0..36 {
         assert!(rt; n <= file.len());
-        expect_file(&rt, rt.alloc(), &file[0..n], cut_list(n)).note(format_args!("cut {n}"))?;
+        expect_file(&rt, n, rt.alloc(), &file[0..n], cut_list(n))?;
     }
     Ok(())
 }

@@ -1,5 +1,6 @@
 //! Tests of the sources: whole readings, case by case, and single looks and steps.
 #![tactic(auto)]
+
 #[cfg(test)]
 mod bytes;
 #[cfg(test)]

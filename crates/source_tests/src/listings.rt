@@ -14,32 +14,34 @@ pub(crate) struct Case(pub(crate) &'static [u8], pub(crate) &'static str);
 /// The text has this list, alone and as one of any kind.
 pub(crate) fn expect_text(
     rt: &impl Abort,
+    case: usize,
     heap: Global,
     bytes: &[u8],
     listing: &str,
 ) -> Result<(), Fail> {
     let mut out = String::new(heap);
     list(&mut out, &mut TextSource::new(bytes))?;
-    assert_eq!(rt; out.as_str(), listing);
+    assert_eq!(rt; out.as_str(), listing, "case {case}");
     let mut more = String::new(heap);
     list(&mut more, &mut AnySource::Text(TextSource::new(bytes)))?;
-    assert_eq!(rt; more.as_str(), listing);
+    assert_eq!(rt; more.as_str(), listing, "case {case}");
     Ok(())
 }
 
 /// The record file has this list, alone and as one of any kind.
 pub(crate) fn expect_file(
     rt: &impl Abort,
+    case: usize,
     heap: Global,
     bytes: &[u8],
     listing: &str,
 ) -> Result<(), Fail> {
     let mut out = String::new(heap);
     list(&mut out, &mut RecordSource::new(bytes))?;
-    assert_eq!(rt; out.as_str(), listing);
+    assert_eq!(rt; out.as_str(), listing, "case {case}");
     let mut more = String::new(heap);
     list(&mut more, &mut AnySource::Records(RecordSource::new(bytes)))?;
-    assert_eq!(rt; more.as_str(), listing);
+    assert_eq!(rt; more.as_str(), listing, "case {case}");
     Ok(())
 }
 
@@ -47,7 +49,7 @@ pub(crate) fn expect_file(
 pub(crate) fn expect_texts(rt: &impl Abort, heap: Global, cases: &[Case]) -> Result<(), Fail> {
     for (i, c) in cases.iter().enumerate() {
         let Case(bytes, listing) = *c;
-        expect_text(rt, heap, bytes, listing).note(format_args!("case {i}"))?;
+        expect_text(rt, i, heap, bytes, listing)?;
     }
     Ok(())
 }
@@ -56,7 +58,7 @@ pub(crate) fn expect_texts(rt: &impl Abort, heap: Global, cases: &[Case]) -> Res
 pub(crate) fn expect_files(rt: &impl Abort, heap: Global, cases: &[Case]) -> Result<(), Fail> {
     for (i, c) in cases.iter().enumerate() {
         let Case(bytes, listing) = *c;
-        expect_file(rt, heap, bytes, listing).note(format_args!("case {i}"))?;
+        expect_file(rt, i, heap, bytes, listing)?;
     }
     Ok(())
 }

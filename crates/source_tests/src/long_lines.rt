@@ -132,19 +132,19 @@ fn long_text(heap: Global, long: Long) -> Result<String, AllocError> {
     Ok(text)
 }
 
-fn expect_full(rt: &impl Abort, heap: Global, long: Long) -> Result<(), Fail> {
+fn expect_full(rt: &impl Abort, case: usize, heap: Global, long: Long) -> Result<(), Fail> {
     let text = long_text(heap, long)?;
     let mut listing = String::from_str(heap, "place=1 ")?;
     listing.push_str(text.as_str())?;
     listing.push_str("ending number=20 place=0\n")?;
-    expect_text(rt, heap, text.as_bytes(), listing.as_str())
+    expect_text(rt, case, heap, text.as_bytes(), listing.as_str())
 }
 
 fn expect_over(rt: &impl Abort, heap: Global, cases: &[Over]) -> Result<(), Fail> {
     for (i, c) in cases.iter().enumerate() {
         let Over(long, listing) = *c;
         let text = long_text(heap, long)?;
-        expect_text(rt, heap, text.as_bytes(), listing).note(format_args!("case {i}"))?;
+        expect_text(rt, i, heap, text.as_bytes(), listing)?;
     }
     Ok(())
 }
@@ -152,7 +152,7 @@ fn expect_over(rt: &impl Abort, heap: Global, cases: &[Over]) -> Result<(), Fail
 #[test]
 fn full(rt: HostRuntime) -> Result<(), Fail> {
     for (i, long) in FULL.iter().enumerate() {
-        expect_full(&rt, rt.alloc(), *long).note(format_args!("case {i}"))?;
+        expect_full(&rt, i, rt.alloc(), *long)?;
     }
     Ok(())
 }

@@ -96,36 +96,37 @@ fn deletion_list(heap: Global, n: u16) -> Result<String, AllocError> {
 // The file has this list if the number is 20, and else no item and this ending at place 1.
 fn expect(
     rt: &impl Abort,
+    case: usize,
     heap: Global,
     file: &[u8],
     listing: &str,
     number: u8,
 ) -> Result<(), Fail> {
     if number == 20 {
-        return expect_file(rt, heap, file, listing);
+        return expect_file(rt, case, heap, file, listing);
     }
     let ending = format!(in heap; "ending number={number} place=1\n")?;
-    expect_file(rt, heap, file, ending.as_str())
+    expect_file(rt, case, heap, file, ending.as_str())
 }
 
-fn expect_addition(rt: &impl Abort, heap: Global, c: Addition) -> Result<(), Fail> {
+fn expect_addition(rt: &impl Abort, case: usize, heap: Global, c: Addition) -> Result<(), Fail> {
     let Addition(l, h, number) = c;
     let file = addition_file(heap, l, h)?;
     let listing = addition_list(heap, l, h)?;
-    expect(rt, heap, file.as_slice(), listing.as_str(), number)
+    expect(rt, case, heap, file.as_slice(), listing.as_str(), number)
 }
 
-fn expect_deletion(rt: &impl Abort, heap: Global, c: Deletion) -> Result<(), Fail> {
+fn expect_deletion(rt: &impl Abort, case: usize, heap: Global, c: Deletion) -> Result<(), Fail> {
     let Deletion(n, number) = c;
     let file = deletion_file(heap, n)?;
     let listing = deletion_list(heap, n)?;
-    expect(rt, heap, file.as_slice(), listing.as_str(), number)
+    expect(rt, case, heap, file.as_slice(), listing.as_str(), number)
 }
 
 #[test]
 fn long_additions(rt: HostRuntime) -> Result<(), Fail> {
     for (i, c) in ADDITIONS.iter().enumerate() {
-        expect_addition(&rt, rt.alloc(), *c).note(format_args!("case {i}"))?;
+        expect_addition(&rt, i, rt.alloc(), *c)?;
     }
     Ok(())
 }
@@ -133,7 +134,7 @@ fn long_additions(rt: HostRuntime) -> Result<(), Fail> {
 #[test]
 fn long_deletions(rt: HostRuntime) -> Result<(), Fail> {
     for (i, c) in DELETIONS.iter().enumerate() {
-        expect_deletion(&rt, rt.alloc(), *c).note(format_args!("case {i}"))?;
+        expect_deletion(&rt, i, rt.alloc(), *c)?;
     }
     Ok(())
 }

@@ -54,18 +54,27 @@ fn four_sources() -> [AnySource<'static>; 4] {
     ]
 }
 
-fn draw_one(rt: &impl Abort, all: &mut [AnySource<'static>], d: Draw) -> Result<(), Fail> {
+fn draw_one(
+    rt: &impl Abort,
+    case: usize,
+    all: &mut [AnySource<'static>],
+    d: Draw,
+) -> Result<(), Fail> {
     let Draw(i, look, step) = d;
     let mut literals = [LITERAL; 64];
     let mut hints = [HINT; 256];
-    assert_eq!(rt; looked(look_at(all, i, &mut literals, &mut hints)), look);
-    assert_eq!(rt; stepped(step_at(all, i)), step);
+    assert_eq!(rt;
+        looked(look_at(all, i, &mut literals, &mut hints)),
+        look,
+        "draw {case}"
+    );
+    assert_eq!(rt; stepped(step_at(all, i)), step, "draw {case}");
     Ok(())
 }
 
 fn draw_all(rt: &impl Abort, all: &mut [AnySource<'static>]) -> Result<(), Fail> {
     for (i, d) in DRAWS.iter().enumerate() {
-        draw_one(rt, all, *d).note(format_args!("draw {i}"))?;
+        draw_one(rt, i, all, *d)?;
     }
     Ok(())
 }
@@ -87,20 +96,20 @@ fn writes_nothing(
     let all = four_sources();
     let mut literals = [LITERAL; 64];
     let mut hints = [HINT; 256];
-    assert!(rt; a <= 64);
-    assert!(rt; b <= 256);
+    assert!(rt; a <= 64, "source {i}");
+    assert!(rt; b <= 256, "source {i}");
     let found = look_at(&all, i, &mut literals[0..a], &mut hints[0..b]);
-    assert_eq!(rt; looked(found), look);
-    assert_eq!(rt; literals, [LITERAL; 64]);
-    assert_eq!(rt; hints, [HINT; 256]);
+    assert_eq!(rt; looked(found), look, "source {i}");
+    assert_eq!(rt; literals, [LITERAL; 64], "source {i}");
+    assert_eq!(rt; hints, [HINT; 256], "source {i}");
     Ok(())
 }
 
 #[test]
 fn short_buffers(rt: HostRuntime) -> Result<(), Fail> {
     for i in 0..6 {
-        writes_nothing(&rt, i, 63, 256, [3, 7, 0, 0, 0]).note(format_args!("source {i}"))?;
-        writes_nothing(&rt, i, 64, 255, [3, 7, 0, 0, 0]).note(format_args!("source {i}"))?;
+        writes_nothing(&rt, i, 63, 256, [3, 7, 0, 0, 0])?;
+        writes_nothing(&rt, i, 64, 255, [3, 7, 0, 0, 0])?;
     }
     Ok(())
 }
@@ -114,5 +123,5 @@ fn no_source(rt: HostRuntime) -> Result<(), Fail> {
 #[test]
 fn no_sources(rt: HostRuntime) -> Result<(), Fail> {
     let mut all: [AnySource<'static>; 0] = [];
-    draw_one(&rt, &mut all, Draw(0, CLEAN, CLEAN))
+    draw_one(&rt, 0, &mut all, Draw(0, CLEAN, CLEAN))
 }
