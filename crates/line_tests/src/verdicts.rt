@@ -26,7 +26,7 @@ static CASES: [Case; 47] = [
     Case(SAMPLE, &[-1, -3], &[4], 28, 1),
     Case(SAMPLE, &[-1], &[3, 4, 5], 0, 3),
     Case(SAMPLE, &[-1], &[4, 3, 5], 27, 1),
-    Case(SAMPLE, &[-1], &[3, 1, 5], 28, 3),
+    Case(SAMPLE, &[-1], &[3, 1, 5], 27, 2),
     // a clause of which all literals are false at once
     Case(SAMPLE, &[1, 2], &[1], 0, 1),
     Case(SAMPLE, &[2, 1], &[1, 4], 0, 1),
