@@ -1,4 +1,5 @@
 //! Why a call refuses: the number, and the solver, place and hint that it speaks of.
 #![tactic(auto)]
+
 pub mod fault;
 pub mod refusal;

@@ -1,11 +1,10 @@
 -- The words of a header, by their bytes.
-use Rattle.std.proofs.Common.{◌≡◌, ℕ, zero, suc, ◌+◌, ◌-◌, ◌<◌, ◌≤◌, Bool, true, false, ◌&&◌, eqb, ◌⊎◌, List, [], ◌∷◌, length, get_or, take, drop, codes, sym, refl, ap, ◌∙◌, subst, inl, inr, arith}
+use Rattle.std.proofs.Common.{◌≡◌, ℕ, zero, suc, ◌+◌, ◌-◌, ◌<◌, ◌≤◌, Bool, true, false, ◌&&◌, eqb, List, [], ◌∷◌, length, get_or, take, drop, codes, sym, refl, ap, ◌∙◌, subst, inl, inr, arith}
 use Rattle.std.proofs.lemmas.List.{at_drop_more, length-take, length-drop}
 use Rattle.std.proofs.lemmas.Bool.{ne_eqb, eq-eqb, eqb-true, and_parts, and_left, and_right, and_from, cases_Bool, cases_eq, true≢false}
-use Rattle.text.specs.Words.{Token}
 use Rattle.text.specs.Words.Token.{word}
 use Rattle.text.specs.Fronts.{tokens_left, Goes}
-use Rattle.formula.specs.Reading.{same_bytes, is_word}
+use Rattle.formula.specs.Reading.{same_bytes}
 use Rattle.formula.specs.Cursors.{begins}
 
 -- the same bytes, and as many

@@ -1,9 +1,9 @@
 -- The rows of a formula file, line by line.
-use Rattle.std.proofs.Common.{◌≡◌, ℕ, ◌+◌, ◌<◌, ◌≤◌, Bool, true, false, cond, eqb, ◌⊎◌, List, [], ◌∷◌, length, get_or, drop, sym, refl, ap, ◌∙◌, inl, inr, arith}
+use Rattle.std.proofs.Common.{◌≡◌, ℕ, ◌+◌, ◌<◌, ◌≤◌, true, false, eqb, List, [], ◌∷◌, length, get_or, drop, sym, ap, ◌∙◌, inl, inr, arith}
 use Rattle.std.proofs.lemmas.List.{at_drop_more, at_drop_all, drop_all}
-use Rattle.std.proofs.lemmas.Bool.{cases_eq, ne_eqb, eq-eqb}
+use Rattle.std.proofs.lemmas.Bool.{cases_eq, ne_eqb}
 use Rattle.text.specs.Words.{Token, lines_of}
-use Rattle.text.specs.Fronts.{line_of, behind_line, tokens_left, Ends}
+use Rattle.text.specs.Fronts.{line_of, behind_line, tokens_left}
 use Rattle.text.proofs.Lines.{lines_at}
 use Rattle.formula.specs.Rows.{Row, comment, with_line, rows_behind}
 use Rattle.formula.specs.Cursors.{rows_at, Over}

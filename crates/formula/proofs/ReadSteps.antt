@@ -1,5 +1,5 @@
 -- The answer of reading, and the tables behind it.
-use Rattle.std.proofs.Common.{◌≡◌, ℕ, ◌<◌, ◌≤◌, Bool, true, false, cond, ◌&&◌, leb, List, length, Ok, Err, Result, sym, refl, ap, ◌∙◌, subst, arith}
+use Rattle.std.proofs.Common.{◌≡◌, ℕ, ◌<◌, ◌≤◌, Bool, true, false, cond, ◌&&◌, leb, List, length, Ok, Err, sym, refl, ap, ◌∙◌, subst, arith}
 use Rattle.std.proofs.lemmas.Bool.{le-leb, lt-leb, and_from, and_left, and_right}
 use Rattle.answers.specs.declared.fault.Fault.{Fault}
 use Rattle.answers.specs.declared.fault.Fault.TheVariants.{NoSpace}
@@ -8,8 +8,8 @@ use Rattle.answers.specs.Refusals.{refusal_at}
 use Rattle.tables.specs.Filled.{capacity_of}
 use Rattle.formula.specs.declared.formula.Formula.{Formula}
 use Rattle.formula.specs.declared.survey.Survey.{Survey}
-use Rattle.formula.specs.Clauses.{Clause, literals_of}
-use Rattle.formula.specs.Reading.{Reading, formula, refused, fitted, reading}
+use Rattle.formula.specs.Clauses.{literals_of}
+use Rattle.formula.specs.Reading.{formula, refused, fitted, reading}
 use Rattle.formula.specs.Reads.{Holds, read_into, answer_of, After}
 use Rattle.formula.specs.Surveys.{Found, Refuses}
 

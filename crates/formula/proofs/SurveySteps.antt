@@ -1,12 +1,10 @@
 -- Clause by clause through a formula file.
-use Rattle.std.proofs.Common.{◌≡◌, ℕ, ◌+◌, ◌*◌, ◌<◌, ◌≤◌, Bool, true, false, cond, eqb, leb, ◌⊎◌, List, [], ◌∷◌, ◌++◌, length, take, ℤ, Ok, Err, Result, sym, refl, ap, ◌∙◌, subst, inl, inr, arith}
+use Rattle.std.proofs.Common.{◌≡◌, ℕ, ◌+◌, ◌*◌, ◌≤◌, cond, eqb, leb, List, [], ◌∷◌, ◌++◌, length, take, ℤ, sym, refl, ap, ◌∙◌, subst, inl, inr, arith}
 use Rattle.std.proofs.lemmas.List.{length_push, length-append, length-take-le}
-use Rattle.std.proofs.lemmas.Bool.{cases_Bool, leb-false, eq-eqb, ne_eqb}
+use Rattle.std.proofs.lemmas.Bool.{cases_Bool, leb-false}
 use Rattle.answers.specs.declared.fault.Fault.{Fault}
 use Rattle.answers.specs.declared.fault.Fault.TheVariants.{ClauseCount}
-use Rattle.text.specs.Words.{Token}
 use Rattle.formula.specs.Clauses.{Clause, literals_of}
-use Rattle.formula.specs.Rows.{Row}
 use Rattle.formula.specs.Reading.{Reading, formula, refused, and_then, clause_of, read_clauses}
 use Rattle.formula.specs.Cursors.{rows_at, NextClause, NextFault}
 use Rattle.formula.proofs.Limits.{not_surplus}

@@ -1,12 +1,12 @@
 -- What the reader's steps tell of the rows and tokens from a position on. Assumes nothing.
-use Rattle.std.specs.Prelude.{◌≡◌, ℕ, ◌+◌, ◌<◌, ◌≤◌, Bool, true, false, List, [], ◌∷◌, length, take, drop, ℤ, pos, Some, None, Ok, Err, codes, Option, Result}
+use Rattle.std.specs.Prelude.{◌≡◌, ℕ, ◌+◌, ◌<◌, ◌≤◌, Bool, false, List, [], ◌∷◌, length, take, drop, ℤ, pos, Some, None, Ok, Err, Option, Result}
 use Rattle.answers.specs.declared.fault.Fault.{Fault}
 use Rattle.text.specs.Words.{Token, lines_of}
 use Rattle.text.specs.Words.Token.{number, word}
 use Rattle.text.specs.Fronts.{tokens_left, behind_line, Goes}
 use Rattle.formula.specs.Clauses.{Clause}
 use Rattle.formula.specs.Rows.{Row, rows_behind}
-use Rattle.formula.specs.Reading.{is_word, number_in, Announced, header_of, closed, clause_from}
+use Rattle.formula.specs.Reading.{is_word, number_in, header_of, closed, clause_from}
 use Rattle.formula.specs.declared.header.Header.{Header}
 use Rattle.formula.specs.declared.clause.Next.{Next}
 use Rattle.formula.specs.declared.clause.Next.TheVariants.{Clause as Read, Fault as Wrong, End}

@@ -1,5 +1,6 @@
 //! Formulas in conjunctive normal form, read from DIMACS text into lent tables.
 #![tactic(auto)]
+
 mod clause;
 pub mod formula;
 mod header;

@@ -1,3 +1,4 @@
 //! Formulas in words: what was read, for a person to see.
 #![tactic(auto)]
+
 pub mod describe;

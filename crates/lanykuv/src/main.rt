@@ -1,5 +1,6 @@
 //! The proof joiner's program: arguments, files and printing only.
 #![tactic(auto)]
+
 use answers::refusal::Refusal;
 use std::env;
 

@@ -1,12 +1,11 @@
 -- One more line in the tables. Assumes nothing.
-use Rattle.std.proofs.Common.{◌≡◌, ℕ, zero, suc, ◌+◌, ◌<◌, ◌≤◌, List, [], ◌∷◌, ◌++◌, map, length, get_or, set, ℤ, sum_by, sym, refl, ap, ◌∙◌, subst, ⊎_elim, arith}
+use Rattle.std.proofs.Common.{◌≡◌, ℕ, suc, ◌+◌, ◌<◌, ◌≤◌, List, [], ◌∷◌, ◌++◌, map, length, get_or, set, ℤ, sym, refl, ap, ◌∙◌, subst, ⊎_elim, arith}
 use Rattle.std.proofs.lemmas.List.{length-append, length_push, length-set, get_or-set_same, get_or-set_other, map_push}
 use Rattle.std.proofs.lemmas.List.Sums.{sum_by_push}
 use Rattle.std.proofs.lemmas.Bool.{cases_eq}
 use Rattle.formula.specs.Spans.{Ranged}
 use Rattle.formula.proofs.SpanParts.{ranged_more}
 use Rattle.lines.specs.declared.entry.Row.{Row}
-use Rattle.lines.specs.Held.{Held}
 use Rattle.lines.specs.Rows.{no_row, at, held_of, Within}
 use Rattle.lines.specs.Index.{bucket_of, Headed, Linked, Indexed}
 use Rattle.lines.proofs.Pushes.{at_old, at_new, each, part_old, part_new}

@@ -5,8 +5,8 @@ use Rattle.std.proofs.lemmas.List.Sums.{sum_by-set}
 use Rattle.std.proofs.lemmas.Bool.{cases_eq}
 use Rattle.lines.specs.declared.entry.Row.{Row}
 use Rattle.lines.specs.Held.{no_held, dead}
-use Rattle.lines.specs.Rows.{no_row, at, held_of, Within}
-use Rattle.lines.specs.Index.{bucket_of, Headed, Linked, Indexed}
+use Rattle.lines.specs.Rows.{no_row, at, held_of}
+use Rattle.lines.specs.Index.{bucket_of, Indexed}
 use Rattle.lines.specs.Tables.{dead_row}
 use Rattle.lines.proofs.Naming.{is_held}
 

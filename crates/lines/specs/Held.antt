@@ -1,5 +1,5 @@
 -- Lines, which of them are alive, and the clause that a number names. Assumes nothing.
-use Rattle.std.specs.Prelude.{ℕ, suc, ◌+◌, Bool, true, false, cond, ◌&&◌, ◌||◌, List, [], ◌∷◌, ◌++◌, map, length, ℤ, Some, None, sum_by, Option, ◌==◌, nat_le, nat_lt, slice_index_or, slice_set, unsigned_abs}
+use Rattle.std.specs.Prelude.{ℕ, suc, ◌+◌, Bool, true, false, cond, ◌&&◌, ◌||◌, List, [], ◌∷◌, map, length, ℤ, Some, None, sum_by, Option, ◌==◌, nat_le, nat_lt, slice_index_or, slice_set, unsigned_abs}
 use Rattle.std.specs.Option.{option_map}
 use Rattle.formula.specs.Clauses.{Clause}
 use Rattle.formula.specs.Formulas.{numbered}

@@ -1,6 +1,6 @@
 -- How a line is found by its number: lines are in buckets, each linked to the one before it in its
 -- bucket. Assumes nothing.
-use Rattle.std.specs.Prelude.{◌≡◌, ℕ, ◌+◌, ◌-◌, ◌%◌, ◌<◌, ◌≤◌, List, map, length, ℤ, sum_by, slice_index}
+use Rattle.std.specs.Prelude.{◌≡◌, ℕ, ◌+◌, ◌-◌, ◌%◌, ◌<◌, ◌≤◌, List, length, ℤ, sum_by, slice_index}
 use Rattle.formula.specs.Spans.{Ranged}
 use Rattle.lines.specs.declared.entry.Row.{Row}
 use Rattle.lines.specs.Rows.{at, Within}

@@ -5,7 +5,7 @@ use Rattle.tables.specs.Filled.{filled, slots_of}
 use Rattle.formula.specs.Spans.{part, no_span}
 use Rattle.lines.specs.declared.entry.Row.{Row}
 use Rattle.lines.specs.declared.entry.Entry.{Entry}
-use Rattle.lines.specs.Held.{Line, Held}
+use Rattle.lines.specs.Held.{Held}
 
 abbrev pub no_row : Row
 no_row = record { number = 0; alive = false; literals = no_span; hints = no_span; link = 0 }

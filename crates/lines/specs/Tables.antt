@@ -1,5 +1,5 @@
 -- What the tables of lines stand for, and what they hold after a line is stored or killed. Assumes nothing.
-use Rattle.std.specs.Prelude.{◌≡◌, ℕ, ◌+◌, Bool, true, false, cond, not, ◌&&◌, List, [], ◌∷◌, ◌++◌, map, length, ℤ, Some, None, Option, slice_index, slice_set}
+use Rattle.std.specs.Prelude.{◌≡◌, ℕ, Bool, true, false, not, ◌&&◌, List, [], ◌∷◌, ◌++◌, map, length, ℤ, Some, None, Option, slice_index, slice_set}
 use Rattle.tables.specs.Filled.{filled, slots_of, capacity_of, over}
 use Rattle.formula.specs.Clauses.{Clause}
 use Rattle.formula.specs.Formulas.{variables_of, clauses_of}

@@ -1,5 +1,6 @@
 //! Lines of a proof in lent tables: each is found by its number in constant time.
 #![tactic(auto)]
+
 pub mod addition;
 pub mod entry;
 mod heads;

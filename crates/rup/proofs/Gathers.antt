@@ -1,7 +1,7 @@
 -- The clauses that hints name. Assumes nothing.
-use Rattle.std.proofs.Common.{◌≡◌, ℕ, zero, suc, ◌+◌, ◌<◌, ◌≤◌, List, [], ◌∷◌, length, get_or, drop, Some, None, Option, sym, refl, ap, ◌∙◌, subst, le_of_suc-le-suc, arith}
+use Rattle.std.proofs.Common.{◌≡◌, ℕ, zero, suc, ◌+◌, ◌<◌, List, [], ◌∷◌, length, get_or, drop, Some, None, Option, sym, refl, ap, ◌∙◌, le_of_suc-le-suc, arith}
 use Rattle.formula.specs.Clauses.{Clause}
-use Rattle.rup.specs.Propagation.{Known, Gathered, found, unknown, before, gathered, gather, unknown_in}
+use Rattle.rup.specs.Propagation.{Known, Gathered, found, unknown, gathered, gather, unknown_in}
 
 -- a hint that names a clause leaves the question to the others
 pub known_one : (o : Option Clause) (c : Clause) (p : ℕ) (g : Gathered) → o ≡ Some c → unknown_in (gathered o p g) ≡ unknown_in g

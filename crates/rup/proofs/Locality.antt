@@ -1,10 +1,9 @@
 -- A verdict depends only on the clauses that the hints name. Assumes nothing.
-use Rattle.std.proofs.Common.{◌≡◌, ℕ, ◌+◌, Bool, true, false, cond, ◌⊎◌, List, [], ◌∷◌, Some, None, Option, sym, refl, ap, ◌∙◌, subst, inl, inr, arith}
+use Rattle.std.proofs.Common.{◌≡◌, ℕ, ◌+◌, Bool, true, false, cond, ◌⊎◌, List, [], ◌∷◌, Some, None, Option, refl, ap, ◌∙◌, inl, inr, arith}
 use Rattle.answers.specs.declared.fault.Fault.TheVariants.{LineVariableAbove, LineVariableTwice}
 use Rattle.formula.specs.Clauses.{Clause}
 use Rattle.formula.specs.Laws.{In}
 use Rattle.lines.specs.Held.{Line, outside}
-use Rattle.rup.specs.declared.verdict.Verdict.{Verdict}
 use Rattle.rup.specs.declared.verdict.Verdict.TheVariants.{Fails}
 use Rattle.rup.specs.Laws.{HintsKnown}
 use Rattle.rup.specs.Propagation.{Known, Gathered, found, unknown, gathered, gather, through}

@@ -1,8 +1,8 @@
 -- What satisfies the clauses that hints name satisfies a line that follows by them. Assumes nothing.
-use Rattle.std.proofs.Common.{◌≡◌, ℕ, zero, suc, ◌+◌, Bool, true, false, cond, ◌&&◌, ◌||◌, eqb, leb, List, [], ◌∷◌, length, ℤ, pos, negsuc, neg_ℤ, Some, None, Option, sym, refl, ap, ◌∙◌, subst, inl, inr, arith}
+use Rattle.std.proofs.Common.{◌≡◌, ℕ, zero, suc, ◌+◌, Bool, true, false, cond, eqb, leb, List, [], ◌∷◌, length, ℤ, pos, negsuc, neg_ℤ, Some, None, Option, sym, refl, ap, ◌∙◌, subst, inl, inr, arith}
 use Rattle.std.specs.List.{slice_get}
 use Rattle.std.specs.Option.{option_map}
-use Rattle.std.proofs.lemmas.Bool.{not-true, not_from_true, eqb-true, or_cases, or_parts, or_left, or_right, and_parts}
+use Rattle.std.proofs.lemmas.Bool.{not-true, not_from_true, or_cases, or_parts, or_left, or_right, and_parts}
 use Rattle.answers.specs.declared.fault.Fault.TheVariants.{HintNotUnit, LineVariableAbove, LineVariableTwice}
 use Rattle.formula.specs.Clauses.{Clause, Assignment, holds, satisfies_clause, satisfies}
 use Rattle.formula.specs.Formulas.{numbered}

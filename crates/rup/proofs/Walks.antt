@@ -1,9 +1,8 @@
 -- One hint of a walk. Assumes nothing.
-use Rattle.std.proofs.Common.{◌≡◌, ℕ, ◌+◌, ◌<◌, ◌≤◌, List, ◌∷◌, length, get_or, drop, ℤ, neg_ℤ, Some, None, sym, refl, ap, ◌∙◌, arith}
+use Rattle.std.proofs.Common.{◌≡◌, ℕ, ◌+◌, ◌<◌, ◌≤◌, List, ◌∷◌, length, get_or, drop, ℤ, neg_ℤ, Some, None, ap, ◌∙◌, arith}
 use Rattle.std.proofs.lemmas.List.{at_drop_all}
 use Rattle.answers.specs.declared.fault.Fault.TheVariants.{HintNotUnit, NoConflict}
 use Rattle.formula.specs.Clauses.{Clause}
-use Rattle.rup.specs.declared.verdict.Verdict.{Verdict}
 use Rattle.rup.specs.declared.verdict.Verdict.TheVariants.{Follows, Fails}
 use Rattle.rup.specs.Propagation.{Known, gather, found, left, by_left, walk}
 use Rattle.rup.proofs.Gathers.{gathered_at, gathered_length}

@@ -1,5 +1,5 @@
 -- What is answered of a line that is offered, and what the tables hold behind it. Assumes nothing.
-use Rattle.std.specs.Prelude.{◌≡◌, ℕ, Bool, true, false, cond, List, length, Ok, Err, Result}
+use Rattle.std.specs.Prelude.{◌≡◌, ℕ, Bool, cond, List, length, Ok, Err, Result}
 use Rattle.answers.specs.declared.fault.Fault.TheVariants.{AssignmentBytes}
 use Rattle.answers.specs.declared.refusal.Refusal.{Refusal}
 use Rattle.lines.specs.declared.lines.Lines.{Lines}

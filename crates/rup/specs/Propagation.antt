@@ -1,5 +1,5 @@
 -- Unit propagation through the clauses that hints name. Assumes nothing.
-use Rattle.std.specs.Prelude.{ℕ, ◌+◌, Bool, true, false, cond, ◌||◌, List, [], ◌∷◌, ℤ, pos, negsuc, neg_ℤ, Some, None, Option, ◌==◌}
+use Rattle.std.specs.Prelude.{ℕ, ◌+◌, Bool, false, cond, ◌||◌, List, [], ◌∷◌, ℤ, pos, negsuc, neg_ℤ, Some, None, Option, ◌==◌}
 use Rattle.answers.specs.declared.fault.Fault.TheVariants.{UnknownHint, HintNotUnit, NoConflict}
 use Rattle.formula.specs.Clauses.{Clause}
 use Rattle.rup.specs.declared.verdict.Verdict.{Verdict}

@@ -1,5 +1,6 @@
 //! Whether a line follows: unit propagation through its hints, on assignment bytes.
 #![tactic(auto)]
+
 pub mod assignment;
 pub mod check;
 mod guard;

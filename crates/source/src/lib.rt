@@ -1,5 +1,6 @@
 //! Sources: what a partial proof is to whoever draws from it, whatever bytes lie under it.
 #![tactic(auto)]
+
 pub mod head;
 pub mod marked;
 pub mod source;

@@ -1,5 +1,6 @@
 //! Times the text source on a file: reads it to its end by look and step, then by fetch and pass.
 #![tactic(auto)]
+
 use source::head::Head;
 use source::marked::Marked;
 use source::source::Source;

@@ -1,10 +1,9 @@
 -- The list of a source, item by item. Assumes nothing.
-use Rattle.std.proofs.Common.{◌≡◌, ℕ, ◌≤◌, Bool, true, false, ◌&&◌, leb, List, [], ◌∷◌, ◌++◌, length, take, drop, ℤ, Ok, Err, Result, sym, refl, ap, ◌∙◌, subst, append_assoc, arith}
+use Rattle.std.proofs.Common.{◌≡◌, ℕ, Bool, true, false, leb, List, [], ◌∷◌, ◌++◌, length, take, drop, ℤ, Ok, Err, sym, refl, ap, ◌∙◌, append_assoc, arith}
 use Rattle.std.proofs.lemmas.Bool.{le-leb, and_from}
 use Rattle.answers.specs.declared.refusal.Refusal.{Refusal}
 use Rattle.answers.specs.Refusals.{refusal_at}
 use Rattle.source.specs.declared.head.Head.{Head}
-use Rattle.source.specs.declared.head.Head.TheVariants.{Addition, Deletion}
 use Rattle.source.specs.Items.{Item, addition, deletion, Placed, Ending, literals_of, hints_of, behind_first, first_literals, first_hints, onto}
 use Rattle.source.specs.Looks.{head_of, ended, looked, wide, written}
 use Rattle.source_text.specs.Lists.{addition_text, deletion_text, item_text, ending_text, listing, head_text}

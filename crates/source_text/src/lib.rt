@@ -1,3 +1,4 @@
 //! Sources in words: every item still to come, and the ending.
 #![tactic(auto)]
+
 pub mod list;

@@ -1,5 +1,5 @@
 -- What a source of any kind means. Assumes nothing.
-use Rattle.std.specs.Prelude.{ℕ, ◌^◌, ◌<◌, List, length}
+use Rattle.std.specs.Prelude.{◌^◌, ◌<◌, List, length}
 use Rattle.source.specs.Items.{Placed, Ending}
 use Rattle.source.specs.Limits.{AllWithin, EndingWithin}
 use Rattle.source.specs.declared.head.Mark.{Mark}

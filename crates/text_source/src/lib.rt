@@ -3,6 +3,7 @@
 //! A line is blank, an addition `NUMBER LITERALS 0 HINTS 0`, or a deletion `NUMBER d NUMBERS 0`.
 //! Any other is misshapen (21) or beyond a count limit (25), and ends the reading.
 #![tactic(auto)]
+
 pub mod cursor;
 mod line;
 mod lines;

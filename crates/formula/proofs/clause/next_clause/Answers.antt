@@ -1,4 +1,4 @@
-use Rattle.std.proofs.Common.{◌≡◌, List, ◌∷◌, drop, sym, ap, ◌∙◌, arith, rules}
+use Rattle.std.proofs.Common.{◌∷◌, drop, ap, ◌∙◌, arith}
 use Rattle.text.specs.Words.{lines_of}
 use Rattle.text.specs.Fronts.{tokens_left}
 use Rattle.formula.specs.Rows.{rows_behind}

@@ -1,4 +1,4 @@
-use Rattle.std.proofs.Common.{◌≡◌, ◌+◌, ◌-◌, ◌<◌, ◌≤◌, false, [], ◌∷◌, ◌++◌, length, take, drop, set, Some, None, sym, ap, ◌∙◌, arith, w32, to_z, of_z, rules}
+use Rattle.std.proofs.Common.{◌≡◌, ◌-◌, ◌<◌, false, [], ◌∷◌, ◌++◌, length, take, drop, Some, None, sym, ap, ◌∙◌, arith, w32, to_z, of_z, rules}
 use Rattle.std.proofs.lemmas.List.{take_more_set, length-set, length-take}
 use Rattle.std.proofs.lemmas.Int.{to_z-of_z}
 use Rattle.text.specs.Fronts.{tokens_left}

@@ -1,5 +1,4 @@
-use Rattle.std.proofs.Common.{◌≡◌, ◌-◌, ◌<◌, true, false, ◌&&◌, eqb, [], ◌∷◌, length, get_or, take, drop, codes, sym, ap, ◌∙◌, arith, rules}
-use Rattle.std.proofs.lemmas.Bool.{eq-eqb, ne_eqb}
+use Rattle.std.proofs.Common.{◌≡◌, ◌-◌, ◌<◌, [], ◌∷◌, length, get_or, take, drop, codes, ap, ◌∙◌, arith, rules}
 use Rattle.formula.specs.Reading.{same_bytes}
 use Rattle.formula.proofs.HeaderWords.{is_name, no_name, no_length, take_one, other_first}
 use Rattle.formula.proofs.header.letter_p.Goals as goal

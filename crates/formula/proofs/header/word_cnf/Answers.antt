@@ -1,4 +1,4 @@
-use Rattle.std.proofs.Common.{◌≡◌, take, drop, codes, sym, ap, ◌∙◌, arith}
+use Rattle.std.proofs.Common.{take, drop, codes, sym, ap, ◌∙◌, arith}
 use Rattle.formula.specs.Reading.{same_bytes}
 use Rattle.formula.proofs.HeaderWords.{is_name, no_name, no_length}
 use Rattle.formula.proofs.header.word_cnf.Goals as goal

@@ -1,4 +1,4 @@
-use Rattle.std.proofs.Common.{◌≡◌, ℕ, ◌<◌, false, List, length, drop, Some, None, Option, sym, rules}
+use Rattle.std.proofs.Common.{◌≡◌, ℕ, ◌<◌, false, List, length, drop, Some, None, Option, sym}
 use Rattle.text.specs.Fronts.{line_of}
 use Rattle.formula.specs.Rows.{comment}
 use Rattle.formula.specs.Cursors.{EndAt, PassedOver}

@@ -1,4 +1,4 @@
-use Rattle.std.proofs.Common.{◌≡◌, sym, ◌∙◌}
+use Rattle.std.proofs.Common.{sym, ◌∙◌}
 use Rattle.formula.proofs.LineRows.{rows_end}
 use Rattle.formula.proofs.lines.seek.Goals as goal
 

@@ -1,4 +1,3 @@
-use Rattle.std.proofs.Common.{sym, ◌∙◌}
 use Rattle.tables.specs.Filled.{slots_of}
 use Rattle.lines.proofs.Inserts.{head_some, head_none}
 use Rattle.lines.proofs.heads.head_at.Goals as goal

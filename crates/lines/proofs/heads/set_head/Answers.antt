@@ -1,4 +1,4 @@
-use Rattle.std.proofs.Common.{List, map, set, sym, refl, ap, ◌∙◌}
+use Rattle.std.proofs.Common.{map, sym, refl, ap, ◌∙◌}
 use Rattle.std.proofs.lemmas.List.{map-set, set_past, length-map}
 use Rattle.tables.specs.Filled.{filled, slots_of}
 use Rattle.lines.specs.declared.entry.Entry.{Entry}

@@ -1,11 +1,9 @@
-use Rattle.std.proofs.Common.{◌≡◌, ℕ, Bool, true, false, cond, List, sym, refl, ap, ◌∙◌, subst}
+use Rattle.std.proofs.Common.{◌≡◌, ℕ, true, false, cond, List, sym, ap, ◌∙◌}
 use Rattle.std.proofs.lemmas.Bool.{cond-true, cond-false}
-use Rattle.formula.specs.Clauses.{Clause}
 use Rattle.lines.specs.Held.{Line, outside}
 use Rattle.lines.specs.Tables.{variables_in, named_in, line_of}
 use Rattle.lines.proofs.Ranges.{inside_ranged}
 use Rattle.answers.specs.declared.fault.Fault.TheVariants.{AssignmentBytes, LineVariableAbove, LineVariableTwice}
-use Rattle.rup.specs.declared.verdict.Verdict.{Verdict}
 use Rattle.rup.specs.declared.verdict.Verdict.TheVariants.{Fails}
 use Rattle.rup.specs.Assignments.{bytes_of}
 use Rattle.rup.specs.Bytes.{clean}

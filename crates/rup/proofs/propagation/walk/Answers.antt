@@ -1,9 +1,8 @@
-use Rattle.std.proofs.Common.{◌≡◌, ℕ, ◌+◌, ◌<◌, ◌≤◌, true, false, List, ◌∷◌, ◌++◌, length, get_or, drop, set, ℤ, pos, neg_ℤ, nat_abs, Some, None, Option, sym, refl, ap, ◌∙◌, subst, arith, w32, to_z, of_z, rules}
+use Rattle.std.proofs.Common.{◌≡◌, ℕ, ◌+◌, ◌≤◌, true, false, List, ◌∷◌, get_or, drop, set, ℤ, pos, neg_ℤ, sym, refl, ap, ◌∙◌, subst, arith, w32, to_z, of_z, rules}
 use Rattle.std.proofs.lemmas.Int.{to_z-of_z}
 use Rattle.answers.specs.declared.fault.Fault.TheVariants.{HintNotUnit}
 use Rattle.formula.specs.Clauses.{Clause, LiteralOf}
 use Rattle.lines.specs.Tables.{variables_in, named_in}
-use Rattle.rup.specs.declared.verdict.Verdict.{Verdict}
 use Rattle.rup.specs.declared.verdict.Verdict.TheVariants.{Follows, Fails}
 use Rattle.rup.specs.Bytes.{byte_of, Shows}
 use Rattle.rup.specs.Propagation.{among, left, by_left, walk}

@@ -1,8 +1,8 @@
-use Rattle.std.proofs.Common.{◌≡◌, ◌++◌, string_bytes, sym, ap, ◌∙◌}
+use Rattle.std.proofs.Common.{◌++◌, string_bytes, ap, ◌∙◌}
 use Rattle.source.specs.Items.{Ending, behind_first}
 use Rattle.source.specs.Looks.{wide}
 use Rattle.source_text.specs.Lists.{listing}
-use Rattle.source_text.proofs.ListSteps.{wide_enough, item_listed, ending_listed, all_listed}
+use Rattle.source_text.proofs.ListSteps.{wide_enough, item_listed}
 use Rattle.source_text.proofs.list.list.Goals as goal
 
 pub loop-head-preserved : goal.loop-head-preserved

@@ -1,4 +1,4 @@
-use Rattle.std.proofs.Common.{[], ◌∷◌, ◌++◌, string_bytes, codes, decimal, sym, refl, ap, ◌∙◌, append_assoc}
+use Rattle.std.proofs.Common.{[], ◌∷◌, ◌++◌, string_bytes, codes, decimal, refl, ◌∙◌, append_assoc}
 use Rattle.plain_text.specs.Texts.{literals_text, numbers_text}
 use Rattle.source_text.proofs.Behinds.{five_behind}
 use Rattle.source_text.proofs.list.push_addition.Goals as goal

@@ -1,4 +1,4 @@
-use Rattle.std.proofs.Common.{[], ◌∷◌, ◌++◌, string_bytes, codes, decimal, refl, ◌∙◌, append_assoc}
+use Rattle.std.proofs.Common.{◌++◌, string_bytes, codes, decimal, refl, ◌∙◌, append_assoc}
 use Rattle.plain_text.specs.Texts.{numbers_text}
 use Rattle.source_text.proofs.Behinds.{three_behind}
 use Rattle.source_text.proofs.list.push_deletion.Goals as goal

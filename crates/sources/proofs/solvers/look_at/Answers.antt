@@ -1,4 +1,4 @@
-use Rattle.std.proofs.Common.{◌≡◌, List, [], map, get_or, Err, sym, ap, ◌∙◌}
+use Rattle.std.proofs.Common.{List, [], map, get_or, Err, sym, ap, ◌∙◌}
 use Rattle.source.specs.Items.{Placed, first_literals, first_hints}
 use Rattle.source.specs.Looks.{wide, written}
 use Rattle.sources.specs.Solvers.{no_ending}

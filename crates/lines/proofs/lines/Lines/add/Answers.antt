@@ -1,6 +1,6 @@
-use Rattle.std.proofs.Common.{◌≡◌, ℕ, ◌+◌, ◌<◌, ◌≤◌, true, List, [], ◌∷◌, ◌++◌, map, length, get_or, set, ℤ, sym, refl, ap, ◌∙◌, subst, arith, rules}
+use Rattle.std.proofs.Common.{◌≡◌, ℕ, ◌<◌, true, List, ◌++◌, map, length, get_or, set, ℤ, sym, refl, ap, ◌∙◌, subst}
 use Rattle.std.proofs.lemmas.List.{length-map}
-use Rattle.tables.specs.Filled.{filled, slots_of, capacity_of, over}
+use Rattle.tables.specs.Filled.{filled, slots_of, over}
 use Rattle.formula.specs.Formulas.{clauses_of}
 use Rattle.formula.proofs.Elements.{all_put}
 use Rattle.lines.specs.declared.entry.Row.{Row}

@@ -1,11 +1,9 @@
-use Rattle.std.proofs.Common.{◌≡◌, ℕ, ◌+◌, ◌<◌, ◌≤◌, List, map, length, get_or, ℤ, Some, None, sym, ap, ◌∙◌, subst, arith}
+use Rattle.std.proofs.Common.{◌≡◌, ℕ, ◌+◌, ◌<◌, ◌≤◌, List, length, ℤ, Some, None, sym, ap, ◌∙◌, subst, arith}
 use Rattle.std.proofs.lemmas.List.{length-map}
 use Rattle.tables.specs.Filled.{filled}
 use Rattle.formula.specs.Spans.{part, Ranged}
 use Rattle.formula.proofs.SpanParts.{ranged_part}
 use Rattle.lines.specs.declared.entry.Row.{Row}
-use Rattle.lines.specs.declared.entry.Entry.{Entry}
-use Rattle.lines.specs.declared.lines.Lines.{Lines}
 use Rattle.lines.specs.Held.{Held}
 use Rattle.lines.specs.Rows.{at, row_of, rows_of}
 use Rattle.lines.specs.Tables.{clauses_in, variables_in, held_in}

@@ -1,6 +1,6 @@
 use Rattle.std.proofs.Common.{◌≡◌, ℕ, ◌+◌, ◌<◌, ◌≤◌, true, List, [], ◌∷◌, ◌++◌, map, length, get_or, set, sym, refl, ap, ◌∙◌, arith}
 use Rattle.std.proofs.lemmas.List.{map_push, map-set, get_or-map}
-use Rattle.tables.specs.Filled.{filled, slots_of, capacity_of, over}
+use Rattle.tables.specs.Filled.{filled, slots_of, over}
 use Rattle.tables.proofs.Overs.{over_one}
 use Rattle.formula.specs.declared.span.Span.{Span}
 use Rattle.formula.proofs.Elements.{all_put}
