@@ -1,6 +1,6 @@
 -- What reads as a clause, a header or a formula is within the limits.
 use Rattle.std.proofs.Common.{◌≡◌, ℕ, zero, suc, ◌<◌, ◌≤◌, Bool, true, false, cond, ◌&&◌, eqb, ltb, leb, ◌⊎◌, List, [], ◌∷◌, ◌++◌, length, ℤ, pos, negsuc, nat_abs, Some, None, Ok, Err, codes, Option, Result, sym, refl, ap, ◌∙◌, subst, inl, inr, append_assoc, append-nil, arith}
-use Rattle.std.specs.List.{AllByRecursion as All}
+use Rattle.std.specs.List.{AllByRecursion}
 use Rattle.std.proofs.lemmas.List.{length_push}
 use Rattle.std.proofs.lemmas.Bool.{cases_Bool, and_parts, or_parts, or_from, ltb-false, leb-true, leb-false, eqb-true, eqb-false, ne_eqb}
 use Rattle.std.proofs.ByRecursion.{All-push}
@@ -166,10 +166,10 @@ ended : (b : Bool) (v : ℕ) (cs : List Clause) (w : ℕ) (ds : List Clause) →
 ended true v cs w ds e = (refl, cc, cc)
 ended false v cs w ds e = absurd (no_formula ClauseCount 0 w ds e)
 
-pub clauses_within : (v o : ℕ) (cs : List Clause) (rs : List Row) (w : ℕ) (ds : List Clause) → read_clauses v o cs rs ≡ formula w ds → All (ClauseOf v) cs → length cs ≤ o → (w ≡ v) × All (ClauseOf v) ds × (length ds ≡ o)
+pub clauses_within : (v o : ℕ) (cs : List Clause) (rs : List Row) (w : ℕ) (ds : List Clause) → read_clauses v o cs rs ≡ formula w ds → AllByRecursion (ClauseOf v) cs → length cs ≤ o → (w ≡ v) × AllByRecursion (ClauseOf v) ds × (length ds ≡ o)
 clauses_within v o cs [] w ds e a l =
     let d = ended (eqb (length cs) o) v cs w ds e in
-    (d.1, subst (All (ClauseOf v)) (sym d.2) a, ap length d.2 ∙ eqb-true (length cs) o d.0)
+    (d.1, subst (AllByRecursion (ClauseOf v)) (sym d.2) a, ap length d.2 ∙ eqb-true (length cs) o d.0)
 clauses_within v o cs (r ∷ rs) w ds e a l =
     let t = and_then_lem r.line (clause_of v (leb o (length cs)) r.tokens) (λ c. read_clauses v o (cs ++ c ∷ []) rs) w ds e in
     let b = leb-false o (length cs) (due_at v (leb o (length cs)) r.tokens t.0 t.1) in
@@ -188,7 +188,7 @@ behind_within n ts None rs v cs h e = absurd (no_formula Header n v cs e)
 behind_within n ts (Some a) rs v cs h e =
     let b = header_within ts a h in
     let c = clauses_within a.variables a.clauses [] rs v cs e tt (omega arith) in
-    record { some = omega (arith, c.0, b.0); low = omega (arith, c.0, b.1); few = omega (arith, c.2, b.2); clauses = subst (λ (x : ℕ). All (ClauseOf x) cs) (sym c.0) c.1 }
+    record { some = omega (arith, c.0, b.0); low = omega (arith, c.0, b.1); few = omega (arith, c.2, b.2); clauses = subst (λ (x : ℕ). AllByRecursion (ClauseOf x) cs) (sym c.0) c.1 }
 
 rows_within : (rs : List Row) (v : ℕ) (cs : List Clause) → read_rows rs ≡ formula v cs → FormulaOf v cs
 rows_within [] v cs e = absurd (no_formula Header 0 v cs e)

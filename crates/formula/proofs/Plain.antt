@@ -1,6 +1,6 @@
 -- A formula within the limits, written in the plain way, reads as itself.
 use Rattle.std.proofs.Common.{◌≡◌, ℕ, zero, suc, ◌+◌, ◌≤◌, Bool, false, cond, eqb, ltb, leb, List, [], ◌∷◌, ◌++◌, map, length, ℤ, pos, negsuc, nat_abs, Some, None, Ok, codes, decimal, Option, sym, refl, ap, ◌∙◌, subst, append_assoc, append-nil, arith}
-use Rattle.std.specs.List.{flat_map, AllByRecursion as All}
+use Rattle.std.specs.List.{flat_map, AllByRecursion}
 use Rattle.std.specs.Fmt.{signed_decimal}
 use Rattle.std.proofs.lemmas.List.{length-append, length_push}
 use Rattle.std.proofs.lemmas.Bool.{or_parts, or_from, and_from, le-leb, le-ltb, lt-leb, eq-eqb, ne_eqb}
@@ -18,7 +18,7 @@ use Rattle.formula.specs.Laws.{clause_text, plain_text}
 use Rattle.formula.proofs.Limits.{Fine, other_way}
 
 -- a literal of a clause: what stands before it allows it
-all_middle : {X : Type 0} (P : X → Type 0) (xs : List X) (y : X) (zs : List X) → All P (xs ++ y ∷ zs) → P y
+all_middle : {X : Type 0} (P : X → Type 0) (xs : List X) (y : X) (zs : List X) → AllByRecursion P (xs ++ y ∷ zs) → P y
 all_middle P [] y zs a = a.0
 all_middle P (x ∷ xs) y zs a = all_middle P xs y zs a.1
 
@@ -75,11 +75,11 @@ words_for c = map signed_decimal c ++ decimal 0 ∷ []
 low : (v : ℕ) (z : ℤ) → v ≤ 4096 → LiteralOf v z → nat_abs z ≤ limit
 low v z h l = omega (arith, l.1)
 
-words_for_lem : (v : ℕ) (c : Clause) → v ≤ 4096 → All (LiteralOf v) c → All Word (words_for c)
+words_for_lem : (v : ℕ) (c : Clause) → v ≤ 4096 → AllByRecursion (LiteralOf v) c → AllByRecursion Word (words_for c)
 words_for_lem v [] h a = (word_decimal 0 (omega arith), tt)
 words_for_lem v (z ∷ zs) h a = (word_signed z (low v z h a.0), words_for_lem v zs h a.1)
 
-tokens_for_lem : (v : ℕ) (c : Clause) → v ≤ 4096 → All (LiteralOf v) c → map token_of (words_for c) ≡ tokens_for c
+tokens_for_lem : (v : ℕ) (c : Clause) → v ≤ 4096 → AllByRecursion (LiteralOf v) c → map token_of (words_for c) ≡ tokens_for c
 tokens_for_lem v [] h a = ap (λ t. t ∷ []) (token_decimal 0 (omega arith))
 tokens_for_lem v (z ∷ zs) h a =
     ap (λ t. t ∷ map token_of (words_for zs)) (token_signed z (low v z h a.0)) ∙ ap (λ r. number z ∷ r) (tokens_for_lem v zs h a.1)
@@ -97,7 +97,7 @@ spaced_begins [] ws h = absurd h
 spaced_begins (c ∷ cs) [] h = refl
 spaced_begins (c ∷ cs) (w ∷ ws) h = refl
 
-clause_begins : (v : ℕ) (c : Clause) → v ≤ 4096 → All (LiteralOf v) c → comment (spaced (words_for c)) ≡ false
+clause_begins : (v : ℕ) (c : Clause) → v ≤ 4096 → AllByRecursion (LiteralOf v) c → comment (spaced (words_for c)) ≡ false
 clause_begins v [] h a = number_begins (decimal 0) (pos 0) (token_decimal 0 (omega arith))
 clause_begins v (z ∷ zs) h a =
     spaced_begins (signed_decimal z) (words_for zs) (word_signed z (low v z h a.0)) ∙ number_begins (signed_decimal z) z (token_signed z (low v z h a.0))
@@ -111,7 +111,7 @@ abbrev pub rows_for : ℕ → List Clause → List Row
 rows_for n [] = []
 rows_for n (c ∷ cs) = record { line = n + 1; tokens = tokens_for c } ∷ rows_for (n + 1) cs
 
-rows_clauses : (v n : ℕ) (cs : List Clause) → v ≤ 4096 → All (ClauseOf v) cs → rows_behind n (lines_of (flat_map clause_text cs)) ≡ rows_for n cs
+rows_clauses : (v n : ℕ) (cs : List Clause) → v ≤ 4096 → AllByRecursion (ClauseOf v) cs → rows_behind n (lines_of (flat_map clause_text cs)) ≡ rows_for n cs
 rows_clauses v n [] h a = refl
 rows_clauses v n (c ∷ cs) h a =
     let ws = words_for c in
@@ -124,7 +124,7 @@ rows_clauses v n (c ∷ cs) h a =
     (with_clause (n + 1) c (rows_behind (n + 1) (lines_of rest)) ∙ ap (λ rs. record { line = n + 1; tokens = tokens_for c } ∷ rs) (rows_clauses v (n + 1) cs h a.1))))
 
 -- the clauses behind those read
-clauses_plain : (v o n : ℕ) (ds cs : List Clause) → All (ClauseOf v) cs → length ds + length cs ≡ o → read_clauses v o ds (rows_for n cs) ≡ formula v (ds ++ cs)
+clauses_plain : (v o n : ℕ) (ds cs : List Clause) → AllByRecursion (ClauseOf v) cs → length ds + length cs ≡ o → read_clauses v o ds (rows_for n cs) ≡ formula v (ds ++ cs)
 clauses_plain v o n ds [] a l =
     ap (λ b. cond b (formula v ds) (refused ClauseCount 0)) (eq-eqb (length ds) o (omega arith)) ∙ ap (formula v) (sym (append-nil ds))
 clauses_plain v o n ds (c ∷ cs) a l =
@@ -149,7 +149,7 @@ rows_plain v cs f =
     let h = f.low in
     let few = f.few in
     let ws = codes "p" ∷ codes "cnf" ∷ decimal v ∷ decimal (length cs) ∷ [] in
-    let dark : All Word ws = ((omega arith, tt), ((omega arith, (omega arith, (omega arith, tt))), (word_decimal v (omega arith), (word_decimal (length cs) (omega arith), tt)))) in
+    let dark : AllByRecursion Word ws = ((omega arith, tt), ((omega arith, (omega arith, (omega arith, tt))), (word_decimal v (omega arith), (word_decimal (length cs) (omega arith), tt)))) in
     let ts : tokens_of (spaced ws) ≡ header_for v (length cs) =
     tokens_spaced ws dark ∙
     (ap (λ t. word (codes "p") ∷ word (codes "cnf") ∷ t ∷ token_of (decimal (length cs)) ∷ []) (token_decimal v (omega arith)) ∙

@@ -1,6 +1,6 @@
 -- Spans, the parts of a table that they are, and what is written over its front. Assumes nothing.
 use Rattle.std.proofs.Common.{◌≡◌, ℕ, zero, suc, ◌+◌, ◌-◌, ◌<◌, ◌≤◌, List, [], ◌∷◌, ◌++◌, map, length, take, drop, ℤ, pos, Some, Option, sym, refl, ap, ◌∙◌, arith}
-use Rattle.std.specs.List.{slice_get, AllByRecursion as All}
+use Rattle.std.specs.List.{slice_get, AllByRecursion}
 use Rattle.std.specs.Option.{option_map}
 use Rattle.std.proofs.ByRecursion.{All-get_or}
 use Rattle.std.proofs.lemmas.List.{length-take, length-drop, length-append, get_or-take, get_or-drop, append_assoc, take_at, drop_at, drop-drop, flat_map_more}
@@ -19,7 +19,7 @@ inside_more l m ss s old p q = each no_span ss s (λ s. s.at + s.len ≤ m) (λ 
 pub ranged_more : (v : ℕ) (xs ys : List ℤ) → Ranged v xs → Ranged v ys → Ranged v (xs ++ ys)
 ranged_more v xs ys a b = both (pos 0) (LiteralOf v) xs ys a b
 
-pub ranged_all : (v : ℕ) (ls : List ℤ) → All (LiteralOf v) ls → Ranged v ls
+pub ranged_all : (v : ℕ) (ls : List ℤ) → AllByRecursion (LiteralOf v) ls → Ranged v ls
 ranged_all v ls a k h = All-get_or (LiteralOf v) ls k (pos 0) h a
 
 -- the part that one span is

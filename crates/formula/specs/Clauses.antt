@@ -1,6 +1,6 @@
 -- Literals, clauses and formulas, and what satisfies them. Assumes nothing.
 use Rattle.std.specs.Prelude.{◌≡◌, ℕ, zero, suc, ◌≤◌, Bool, true, false, not, ◌&&◌, ◌||◌, List, [], ◌∷◌, length, ℤ, pos, negsuc, ◌==◌, unsigned_abs}
-use Rattle.std.specs.List.{flat_map, AllByRecursion as All}
+use Rattle.std.specs.List.{flat_map, AllByRecursion}
 
 -- a literal is a variable v, or −v for its opposite; a clause is the list of its literals
 abbrev pub Clause : Type 0
@@ -46,7 +46,7 @@ LiteralOf v l = (1 ≤ unsigned_abs l) × (unsigned_abs l ≤ v)
 
 -- a clause of a formula over v variables
 pub record ClauseOf (v : ℕ) (c : Clause) : Type 0 where
-  pub literals : All (LiteralOf v) c
+  pub literals : AllByRecursion (LiteralOf v) c
   pub once : Once c
   pub few : length c ≤ 64
 
@@ -55,4 +55,4 @@ pub record FormulaOf (v : ℕ) (cs : List Clause) : Type 0 where
   pub some : 1 ≤ v
   pub low : v ≤ 4096
   pub few : length cs ≤ 65536
-  pub clauses : All (ClauseOf v) cs
+  pub clauses : AllByRecursion (ClauseOf v) cs

@@ -1,6 +1,6 @@
 -- Why items that are written as records are read back. Assumes nothing.
 use Rattle.std.proofs.Common.{◌≡◌, ℕ, suc, ◌+◌, ◌-◌, ◌*◌, ◌/◌, ◌%◌, ◌<◌, ◌≤◌, Bool, true, false, eqb, ltb, leb, List, [], ◌∷◌, ◌++◌, length, ℤ, pos, negsuc, nat_abs, refl, ap, ◌∙◌, append_assoc, arith, length-append}
-use Rattle.std.specs.List.{flat_map, AllByRecursion as All}
+use Rattle.std.specs.List.{flat_map, AllByRecursion}
 use Rattle.std.proofs.lemmas.Nat.{shr-shr}
 use Rattle.std.proofs.lemmas.Bool.{and_from, cond-true, cond-false, le-leb, lt-ltb, le-ltb, eq-eqb}
 use Rattle.answers.specs.declared.fault.Fault.TheVariants.{NoItem, Record}
@@ -70,14 +70,14 @@ numbers_count n h r = ap (λ g. then g (kept (λ n. leb n 256) Count)) (two_back
 total_back : (n : ℕ) → n ≤ limit → (r : List ℕ) → total_field (bytes_of 4 n ++ r) ≡ got n r
 total_back n h r = ap (λ g. then g (kept (λ n. leb n limit) Wrong)) (four_back n r (omega arith)) ∙ passed (λ n. leb n limit) n r (le-leb n limit h)
 
-row_back : {A : Type 0} (P : A → Type 0) (one : List ℕ → Got A) (write : A → List ℕ) → ((x : A) → P x → (r : List ℕ) → one (write x ++ r) ≡ got x r) → (xs : List A) → All P xs → (r : List ℕ) → in_row one (length xs) (flat_map write xs ++ r) ≡ got xs r
+row_back : {A : Type 0} (P : A → Type 0) (one : List ℕ → Got A) (write : A → List ℕ) → ((x : A) → P x → (r : List ℕ) → one (write x ++ r) ≡ got x r) → (xs : List A) → AllByRecursion P xs → (r : List ℕ) → in_row one (length xs) (flat_map write xs ++ r) ≡ got xs r
 row_back P one write back [] h r = refl
 row_back P one write back (x ∷ xs) h r =
     ap (in_row one (suc (length xs))) (append_assoc (write x) (flat_map write xs) r)
     ∙ ap (λ g. then g (λ x r. then (in_row one (length xs) r) (λ xs s. got (x ∷ xs) s))) (back x h.0 (flat_map write xs ++ r))
     ∙ ap (λ g. then g (λ xs s. got (x ∷ xs) s)) (row_back P one write back xs h.1 r)
 
-clause_back : (n : ℕ) (ls : List ℤ) (hs : List ℕ) → All Literal ls → All Positive hs → (r : List ℕ) → clause_fields n (length ls) (length hs) ((flat_map literal_bytes ls ++ flat_map number_bytes hs) ++ r) ≡ got (line (addition n ls hs)) r
+clause_back : (n : ℕ) (ls : List ℤ) (hs : List ℕ) → AllByRecursion Literal ls → AllByRecursion Positive hs → (r : List ℕ) → clause_fields n (length ls) (length hs) ((flat_map literal_bytes ls ++ flat_map number_bytes hs) ++ r) ≡ got (line (addition n ls hs)) r
 clause_back n ls hs p q r =
     ap (clause_fields n (length ls) (length hs)) (append_assoc (flat_map literal_bytes ls) (flat_map number_bytes hs) r)
     ∙ ap (λ g. then g (λ ls r. then (in_row number_field (length hs) r) (λ hs s. got (line (addition n ls hs)) s))) (row_back Literal literal_field literal_bytes literal_back ls p (flat_map number_bytes hs ++ r))
@@ -112,7 +112,7 @@ additions_most (x ∷ xs) = omega (arith, counted_most x (additions_in xs), addi
 closing_back : (c a place : ℕ) → c ≡ a → closing c a place 0 ≡ ends NoItem 0 false
 closing_back c a place e = cond-true (eqb c a) (ends NoItem 0 false) (ends Record place false) (eq-eqb c a e)
 
-read_back : (xs : List Item) (n p a c : ℕ) → All Within xs → c ≡ a + additions_in xs → c ≤ limit → length (flat_map record_of xs ++ last_record c) ≤ n → read_from n p a (flat_map record_of xs ++ last_record c) ≡ whole (p + 1) xs
+read_back : (xs : List Item) (n p a c : ℕ) → AllByRecursion Within xs → c ≡ a + additions_in xs → c ≤ limit → length (flat_map record_of xs ++ last_record c) ≤ n → read_from n p a (flat_map record_of xs ++ last_record c) ≡ whole (p + 1) xs
 read_back [] n p a c w e l h =
     read_same n (suc n) p a (last_record c) h (omega arith)
     ∙ ap (λ g. read_record (p + 1) a g (read_from n (p + 1))) (last_back c l)

@@ -1,7 +1,7 @@
 -- Why the items and the ending that are left keep the limits, and why the items are few. Assumes nothing.
 use Rattle.std.specs.Prelude.{◌≡◌, ℕ, zero, suc, ◌+◌, ◌*◌, ◌^◌, ◌<◌, ◌≤◌, Bool, true, false, ◌&&◌, leb, List, [], ◌∷◌, length, drop, ◌==◌, nat_le, nat_lt, unsigned_abs, refl}
 use Rattle.std.proofs.Common.{arith, inl, inr, length-drop}
-use Rattle.std.specs.List.{AllByRecursion as All}
+use Rattle.std.specs.List.{AllByRecursion}
 use Rattle.std.proofs.lemmas.Bool.{cond_both, and_parts, leb-true, ltb-true}
 use Rattle.answers.specs.declared.fault.Fault.TheVariants.{NoItem, Record}
 use Rattle.source.specs.Items.{addition, deletion}
@@ -61,7 +61,7 @@ count_good : (k m : ℕ) (bs : List ℕ) → Good (λ n. n ≤ m) (k + 0) bs (co
 count_good k m bs = then_good Any (λ n. n ≤ m) k 0 bs (field k bs) (kept (λ n. leb n m) Count) (from_good k 0 bs) (λ n r _. kept_good (λ n. n ≤ m) (λ n. leb n m) Count n r (leb-true n m))
 
 abbrev Row : {A : Type 0} → (A → Type 0) → ℕ → List A → Type 0
-Row P k xs = All P xs × (length xs ≤ k)
+Row P k xs = AllByRecursion P xs × (length xs ≤ k)
 
 row_good : {A : Type 0} (P : A → Type 0) (one : List ℕ → Got A) → ((bs : List ℕ) → Good P 4 bs (one bs)) → (k : ℕ) (bs : List ℕ) → Good (Row P k) 0 bs (in_row one k bs)
 row_good P one h zero bs = ((tt, omega arith), omega arith)

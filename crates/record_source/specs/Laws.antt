@@ -1,6 +1,6 @@
 -- Laws of the reading. Assumes nothing.
 use Rattle.std.specs.Prelude.{◌≡◌, ℕ, ◌+◌, ◌^◌, ◌<◌, false, List, [], ◌∷◌, length}
-use Rattle.std.specs.List.{AllByRecursion as All}
+use Rattle.std.specs.List.{AllByRecursion}
 use Rattle.answers.specs.declared.fault.Fault.TheVariants.{NoItem}
 use Rattle.source.specs.Items.{Item, Placed}
 use Rattle.source.specs.Limits.{Within}
@@ -18,4 +18,4 @@ whole p xs = record { items = placed_from p xs; ending = record { fault = NoItem
 
 -- items within the limits that are written as records are read back, with the places 1, 2, ..
 abbrev pub ReadsBack : Type 0
-ReadsBack = (xs : List Item) → All Within xs → length xs < 2 ^ 31 → reading (records_of xs) ≡ whole 1 xs
+ReadsBack = (xs : List Item) → AllByRecursion Within xs → length xs < 2 ^ 31 → reading (records_of xs) ≡ whole 1 xs

@@ -1,6 +1,6 @@
 -- The limits that every item and every ending keeps. Assumes nothing.
 use Rattle.std.specs.Prelude.{◌≡◌, ℕ, ◌≤◌, ◌⊎◌, List, length, ℤ, unsigned_abs}
-use Rattle.std.specs.List.{AllByRecursion as All}
+use Rattle.std.specs.List.{AllByRecursion}
 use Rattle.answers.specs.Numbers.{number_of}
 use Rattle.source.specs.Items.{Item, addition, deletion, Placed, Ending}
 
@@ -12,11 +12,11 @@ abbrev pub Literal : ℤ → Type 0
 Literal z = Positive (unsigned_abs z)
 
 abbrev pub Within : Item → Type 0
-Within (addition n ls hs) = Positive n × All Literal ls × (length ls ≤ 64) × All Positive hs × (length hs ≤ 256)
-Within (deletion ns) = All Positive ns × (length ns ≤ 256)
+Within (addition n ls hs) = Positive n × AllByRecursion Literal ls × (length ls ≤ 64) × AllByRecursion Positive hs × (length hs ≤ 256)
+Within (deletion ns) = AllByRecursion Positive ns × (length ns ≤ 256)
 
 abbrev pub AllWithin : List Placed → Type 0
-AllWithin xs = All (λ x. Within x.item) xs
+AllWithin xs = AllByRecursion (λ x. Within x.item) xs
 
 -- 20 with place 0, or 21, 25 or 29
 abbrev pub EndingWithin : Ending → Type 0

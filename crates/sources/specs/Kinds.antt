@@ -3,20 +3,20 @@ use Rattle.std.specs.Prelude.{◌^◌, ◌<◌, List, length}
 use Rattle.source.specs.Items.{Placed, Ending}
 use Rattle.source.specs.Limits.{AllWithin, EndingWithin}
 use Rattle.source.specs.declared.head.Mark.{Mark}
-use Rattle.text_source.specs.Lefts.{items_left as textItems, ending_left as textEnding, LeadsOn as TextLeads}
+use Rattle.text_source.specs.Lefts.{items_left as text_items, ending_left as text_ending, LeadsOn as TextLeads}
 use Rattle.text_source.specs.Keeps.{items_keep, ending_keeps, items_few}
-use Rattle.record_source.specs.Cursors.{items_left as recordItems, ending_left as recordEnding, LeadsOn as RecordLeads}
+use Rattle.record_source.specs.Cursors.{items_left as record_items, ending_left as record_ending, LeadsOn as RecordLeads}
 use Rattle.record_source.specs.Keeps.{left_within, left_ends, left_few}
 use Rattle.sources.specs.declared.kind.AnySource.{AnySource}
 use Rattle.sources.specs.declared.kind.AnySource.TheVariants.{Text, Records}
 
 abbrev pub any_items : AnySource → List Placed
-any_items (Text t) = textItems t
-any_items (Records r) = recordItems r
+any_items (Text t) = text_items t
+any_items (Records r) = record_items r
 
 abbrev pub any_ending : AnySource → Ending
-any_ending (Text t) = textEnding t
-any_ending (Records r) = recordEnding r
+any_ending (Text t) = text_ending t
+any_ending (Records r) = record_ending r
 
 abbrev pub AnyLeads : AnySource → Mark → Type 0
 AnyLeads (Text t) m = TextLeads t m

@@ -1,6 +1,6 @@
 -- What is written is read back: words parted by spaces, decimal numbers, lines.
 use Rattle.std.proofs.Common.{◌≡◌, ℕ, zero, suc, ◌^◌, ◌<◌, ◌≤◌, true, false, cond, eqb, leb, List, [], ◌∷◌, ◌++◌, map, length, get_or, ℤ, pos, negsuc, nat_abs, Some, None, decimal, sym, refl, ap, ◌∙◌, inl, inr, append-nil, arith, rules}
-use Rattle.std.specs.List.{AllByRecursion as All}
+use Rattle.std.specs.List.{AllByRecursion}
 use Rattle.std.specs.Fmt.{signed_decimal}
 use Rattle.std.proofs.lemmas.Bool.{eq-eqb, ne_eqb, le-leb, cases_eq, and_from, or_from}
 use Rattle.std.proofs.ByRecursion.{All-from_get_or, All-append}
@@ -20,45 +20,45 @@ Light c = 32 ≤ c
 
 abbrev pub Word : List ℕ → Type 0
 Word [] = ⊥
-Word (c ∷ cs) = Dark c × All Dark cs
+Word (c ∷ cs) = Dark c × AllByRecursion Dark cs
 
 -- words in a line
 not_blank : (c : ℕ) → Dark c → blank c ≡ false
 not_blank c h = or_from (eqb c 32) (eqb c 9) (ne_eqb c 32 (λ e. omega arith)) (ne_eqb c 9 (λ e. omega arith))
 
-pub words_word : (w : List ℕ) (c : ℕ) (rest : List ℕ) → Dark c → All Dark w → in_word rest ≡ false → words_of (c ∷ (w ++ rest)) ≡ (c ∷ w) ∷ words_of rest
+pub words_word : (w : List ℕ) (c : ℕ) (rest : List ℕ) → Dark c → AllByRecursion Dark w → in_word rest ≡ false → words_of (c ∷ (w ++ rest)) ≡ (c ∷ w) ∷ words_of rest
 words_word [] c rest h a e = rw (not_blank c h, e) refl
 words_word (d ∷ ds) c rest h a e =
     let ih = words_word ds d rest a.0 a.1 e in
     ap (λ b. cond b (words_of (d ∷ (ds ++ rest))) (glue c (in_word (d ∷ (ds ++ rest))) (words_of (d ∷ (ds ++ rest))))) (not_blank c h) ∙
     (ap (λ b. glue c (cond b false true) (words_of (d ∷ (ds ++ rest)))) (not_blank d a.0) ∙ ap (join_first c) ih)
 
-pub words_spaced : (ws : List (List ℕ)) → All Word ws → words_of (spaced ws) ≡ ws
+pub words_spaced : (ws : List (List ℕ)) → AllByRecursion Word ws → words_of (spaced ws) ≡ ws
 words_spaced [] h = refl
 words_spaced ([] ∷ []) h = absurd h.0
 words_spaced ((c ∷ cs) ∷ []) h = ap (λ x. words_of (c ∷ x)) (sym (append-nil cs)) ∙ words_word cs c [] h.0.0 h.0.1 refl
 words_spaced ([] ∷ v ∷ ws) h = absurd h.0
 words_spaced ((c ∷ cs) ∷ v ∷ ws) h = words_word cs c (32 ∷ spaced (v ∷ ws)) h.0.0 h.0.1 refl ∙ ap (λ r. (c ∷ cs) ∷ r) (words_spaced (v ∷ ws) h.1)
 
-pub tokens_spaced : (ws : List (List ℕ)) → All Word ws → tokens_of (spaced ws) ≡ map token_of ws
+pub tokens_spaced : (ws : List (List ℕ)) → AllByRecursion Word ws → tokens_of (spaced ws) ≡ map token_of ws
 tokens_spaced ws h = ap (map token_of) (words_spaced ws h)
 
 -- a line in a text
-pub lines_line : (w rest : List ℕ) → All Light w → lines_of (w ++ 10 ∷ rest) ≡ w ∷ lines_of rest
+pub lines_line : (w rest : List ℕ) → AllByRecursion Light w → lines_of (w ++ 10 ∷ rest) ≡ w ∷ lines_of rest
 lines_line [] rest h = refl
 lines_line (c ∷ cs) rest h =
     let n : eqb c 10 ≡ false = ne_eqb c 10 (λ e. (let x = h.0 in omega arith)) in
     ap (λ b. cond b ([] ∷ lines_of (cs ++ 10 ∷ rest)) (join_first c (lines_of (cs ++ 10 ∷ rest)))) n ∙ ap (join_first c) (lines_line cs rest h.1)
 
-lighter : (w : List ℕ) → All Dark w → All Light w
+lighter : (w : List ℕ) → AllByRecursion Dark w → AllByRecursion Light w
 lighter [] h = tt
 lighter (c ∷ cs) h = ((let x = h.0 in omega arith), lighter cs h.1)
 
-pub word_light : (w : List ℕ) → Word w → All Light w
+pub word_light : (w : List ℕ) → Word w → AllByRecursion Light w
 word_light [] h = absurd h
 word_light (c ∷ cs) h = ((let x = h.0 in omega arith), lighter cs h.1)
 
-pub spaced_light : (ws : List (List ℕ)) → All Word ws → All Light (spaced ws)
+pub spaced_light : (ws : List (List ℕ)) → AllByRecursion Word ws → AllByRecursion Light (spaced ws)
 spaced_light [] h = tt
 spaced_light (w ∷ []) h = word_light w h.0
 spaced_light (w ∷ v ∷ ws) h = All-append Light w (32 ∷ spaced (v ∷ ws)) (word_light w h.0) (omega arith, spaced_light (v ∷ ws) h.1)
@@ -73,12 +73,12 @@ small n h = omega arith
 first_digit : (n : ℕ) → n ≤ limit → (48 ≤ get_or (decimal n) 0 0) × (get_or (decimal n) 0 0 ≤ 57)
 first_digit n h = digit_at (decimal n) 0 (own.to (decimal n) (digits_decimal own n (small n h))) (decimal_nonempty n (small n h))
 
-pub dark_decimal : (n : ℕ) → n ≤ limit → All Dark (decimal n)
+pub dark_decimal : (n : ℕ) → n ≤ limit → AllByRecursion Dark (decimal n)
 dark_decimal n h =
     All-from_get_or Dark (decimal n) 0
     (λ i l. let x = digit_at (decimal n) i (own.to (decimal n) (digits_decimal own n (small n h))) l in (let y = x.0 in omega arith))
 
-word_of : (w : List ℕ) → 0 < length w → All Dark w → Word w
+word_of : (w : List ℕ) → 0 < length w → AllByRecursion Dark w → Word w
 word_of [] l h = absurd (omega arith)
 word_of (c ∷ cs) l h = h
 

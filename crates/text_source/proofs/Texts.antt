@@ -1,6 +1,6 @@
 -- The text of items reads back as these items.
 use Rattle.std.proofs.Common.{◌≡◌, ℕ, zero, suc, ◌+◌, ◌-◌, ◌≤◌, Bool, false, cond, ◌&&◌, List, [], ◌∷◌, ◌++◌, map, length, ℤ, pos, negsuc, Some, decimal, Option, refl, ap, ◌∙◌, arith}
-use Rattle.std.specs.List.{AllByRecursion as All}
+use Rattle.std.specs.List.{AllByRecursion}
 use Rattle.std.specs.Fmt.{signed_decimal}
 use Rattle.std.proofs.lemmas.Bool.{ne_eqb}
 use Rattle.answers.specs.declared.fault.Fault.TheVariants.{MisshapenLine, CountLimit, NoItem}
@@ -25,21 +25,21 @@ zero_token = token_decimal 0 (omega arith)
 zero_word : Word (decimal 0)
 zero_word = word_decimal 0 (omega arith)
 
-tokens_literals : (zs : List ℤ) → All Literal zs → (rest : List (List ℕ)) → map token_of (map signed_decimal zs ++ rest) ≡ map number zs ++ map token_of rest
+tokens_literals : (zs : List ℤ) → AllByRecursion Literal zs → (rest : List (List ℕ)) → map token_of (map signed_decimal zs ++ rest) ≡ map number zs ++ map token_of rest
 tokens_literals [] h rest = refl
 tokens_literals (z ∷ zs) h rest =
     ap (λ t. t ∷ map token_of (map signed_decimal zs ++ rest)) (token_signed z h.0.1) ∙ ap (λ ts. number z ∷ ts) (tokens_literals zs h.1 rest)
 
-tokens_numbers : (ns : List ℕ) → All Positive ns → (rest : List (List ℕ)) → map token_of (map decimal ns ++ rest) ≡ map plain ns ++ map token_of rest
+tokens_numbers : (ns : List ℕ) → AllByRecursion Positive ns → (rest : List (List ℕ)) → map token_of (map decimal ns ++ rest) ≡ map plain ns ++ map token_of rest
 tokens_numbers [] h rest = refl
 tokens_numbers (n ∷ ns) h rest =
     ap (λ t. t ∷ map token_of (map decimal ns ++ rest)) (token_decimal n h.0.1) ∙ ap (λ ts. plain n ∷ ts) (tokens_numbers ns h.1 rest)
 
-words_literals : (zs : List ℤ) → All Literal zs → (rest : List (List ℕ)) → All Word rest → All Word (map signed_decimal zs ++ rest)
+words_literals : (zs : List ℤ) → AllByRecursion Literal zs → (rest : List (List ℕ)) → AllByRecursion Word rest → AllByRecursion Word (map signed_decimal zs ++ rest)
 words_literals [] h rest a = a
 words_literals (z ∷ zs) h rest a = (word_signed z h.0.1, words_literals zs h.1 rest a)
 
-words_numbers : (ns : List ℕ) → All Positive ns → (rest : List (List ℕ)) → All Word rest → All Word (map decimal ns ++ rest)
+words_numbers : (ns : List ℕ) → AllByRecursion Positive ns → (rest : List (List ℕ)) → AllByRecursion Word rest → AllByRecursion Word (map decimal ns ++ rest)
 words_numbers [] h rest a = a
 words_numbers (n ∷ ns) h rest a = (word_decimal n h.0.1, words_numbers ns h.1 rest a)
 
@@ -48,7 +48,7 @@ module _ {A : Type 0} (keep : ℤ → Option A) (f : A → ℤ) where
   abbrev Kept : A → Type 0
   Kept x = (is_zero (f x) ≡ false) × (keep (f x) ≡ Some x)
 
-  collect_run : (xs : List A) (k : ℕ) (ts : List Token) → All Kept xs → length xs ≤ k → collect keep k (map (λ x. number (f x)) xs ++ number (pos 0) ∷ ts) ≡ got xs ts
+  collect_run : (xs : List A) (k : ℕ) (ts : List Token) → AllByRecursion Kept xs → length xs ≤ k → collect keep k (map (λ x. number (f x)) xs ++ number (pos 0) ∷ ts) ≡ got xs ts
   collect_run [] k ts h l = refl
   collect_run (x ∷ xs) zero ts h l = absurd (omega arith)
   collect_run (x ∷ xs) (suc k) ts h l =
@@ -63,11 +63,11 @@ nonzero : (z : ℤ) → Literal z → is_zero z ≡ false
 nonzero (pos n) h = ne_eqb n 0 (λ e. (let x = h.0 in omega arith))
 nonzero (negsuc n) h = refl
 
-kept_literals : (zs : List ℤ) → All Literal zs → All (Kept literal (λ z. z)) zs
+kept_literals : (zs : List ℤ) → AllByRecursion Literal zs → AllByRecursion (Kept literal (λ z. z)) zs
 kept_literals [] h = tt
 kept_literals (z ∷ zs) h = ((nonzero z h.0, refl), kept_literals zs h.1)
 
-kept_numbers : (ns : List ℕ) → All Positive ns → All (Kept signless pos) ns
+kept_numbers : (ns : List ℕ) → AllByRecursion Positive ns → AllByRecursion (Kept signless pos) ns
 kept_numbers [] h = tt
 kept_numbers (n ∷ ns) h = ((nonzero (pos n) h.0, refl), kept_numbers ns h.1)
 
@@ -76,7 +76,7 @@ numbered_addition : (n : ℕ) (zs : List ℤ) (ts : List Token) → Positive n �
 numbered_addition n [] ts p = ap (λ b. cond b (wrong MisshapenLine) (addition_of n (literals_in (number (pos 0) ∷ ts)))) (nonzero (pos n) p)
 numbered_addition n (z ∷ zs) ts p = ap (λ b. cond b (wrong MisshapenLine) (addition_of n (literals_in (map number (z ∷ zs) ++ number (pos 0) ∷ ts)))) (nonzero (pos n) p)
 
-numbers_back : (ns : List ℕ) → All Positive ns → length ns ≤ 256 → numbers_in (map token_of (map decimal ns ++ decimal 0 ∷ [])) ≡ got ns []
+numbers_back : (ns : List ℕ) → AllByRecursion Positive ns → length ns ≤ 256 → numbers_in (map token_of (map decimal ns ++ decimal 0 ∷ [])) ≡ got ns []
 numbers_back ns a l =
     ap numbers_in (tokens_numbers ns a (decimal 0 ∷ []) ∙ ap (λ t. map plain ns ++ t ∷ []) zero_token) ∙ collect_run signless pos ns 256 [] (kept_numbers ns a) l
 
@@ -90,7 +90,7 @@ parse_item n h (addition m ls hs) w =
 parse_item n h (deletion ns) w =
     ap (λ t. parse (t ∷ word (100 ∷ []) ∷ map token_of (map decimal ns ++ decimal 0 ∷ []))) (token_decimal n h) ∙ ap deletion_of (numbers_back ns w.0 w.1)
 
-words_item : (n : ℕ) → n ≤ limit → (x : Item) → Within x → All Word (item_words n x)
+words_item : (n : ℕ) → n ≤ limit → (x : Item) → Within x → AllByRecursion Word (item_words n x)
 words_item n h (addition m ls hs) w = (word_decimal m w.0.1, words_literals ls w.1 _ (zero_word, words_numbers hs w.3 _ (zero_word, tt)))
 words_item n h (deletion ns) w = (word_decimal n h, ((omega arith, tt), words_numbers ns w.0 _ (zero_word, tt)))
 
@@ -102,7 +102,7 @@ head_low : (n : ℕ) → n ≤ limit → (x : Item) → Within x → head_behind
 head_low n h (addition m ls hs) w = w.0.1
 head_low n h (deletion ns) w = h
 
-lines_back : (cut : Bool) (xs : List Item) (n p : ℕ) → n ≤ limit → All Within xs → read_lines cut p (lines_of (text_of n xs)) ≡ record { items = placed_from p xs; ending = record { fault = NoItem; place = 0 }; stopped = false }
+lines_back : (cut : Bool) (xs : List Item) (n p : ℕ) → n ≤ limit → AllByRecursion Within xs → read_lines cut p (lines_of (text_of n xs)) ≡ record { items = placed_from p xs; ending = record { fault = NoItem; place = 0 }; stopped = false }
 lines_back cut [] n p h a = refl
 lines_back cut (x ∷ xs) n p h a =
     let rest = text_of (head_behind n x) xs in

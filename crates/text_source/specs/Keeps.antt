@@ -1,7 +1,7 @@
 -- Why items and endings keep the limits, and why they are few enough to count. Assumes nothing.
 use Rattle.std.specs.Prelude.{◌≡◌, ℕ, zero, suc, ◌+◌, ◌-◌, ◌*◌, ◌^◌, ◌<◌, ◌≤◌, Bool, false, ◌&&◌, List, [], ◌∷◌, map, length, drop, ℤ, pos, negsuc, Some, None, Option, ◌==◌, ◌≢◌, nat_le, nat_lt, unsigned_abs, refl}
 use Rattle.std.proofs.Common.{arith, inl, inr, subst, sym, length-drop}
-use Rattle.std.specs.List.{AllByRecursion as All}
+use Rattle.std.specs.List.{AllByRecursion}
 use Rattle.std.proofs.lemmas.Bool.{cond_both, and_parts, leb-true, ltb-true, eqb-false}
 use Rattle.answers.specs.declared.fault.Fault.{Fault}
 use Rattle.answers.specs.declared.fault.Fault.TheVariants.{MisshapenLine, CountLimit}
@@ -41,7 +41,7 @@ token_low (c ∷ cs) =
     cond_both (c == 45) (negative (c ∷ cs) (natural cs)) (unsigned (c ∷ cs) (natural (c ∷ cs))) Low (λ _. negative_low (c ∷ cs) (natural cs) (nat_low cs))
     (λ _. unsigned_low (c ∷ cs) (natural (c ∷ cs)) (nat_low (c ∷ cs)))
 
-tokens_low : (ws : List (List ℕ)) → All Low (map token_of ws)
+tokens_low : (ws : List (List ℕ)) → AllByRecursion Low (map token_of ws)
 tokens_low [] = tt
 tokens_low (w ∷ ws) = (token_low w, tokens_low ws)
 
@@ -57,7 +57,7 @@ count_off = inr (inr (inl refl))
 
 -- a run has at most k numbers that P holds of, or a fault
 abbrev RunIn : {A : Type 0} → (A → Type 0) → ℕ → Run A → Type 0
-RunIn P k (got xs ts) = All P xs × (length xs ≤ k) × All Low ts
+RunIn P k (got xs ts) = AllByRecursion P xs × (length xs ≤ k) × AllByRecursion Low ts
 RunIn P k (off f) = Off f
 
 abbrev KeptIn : {A : Type 0} → (A → Type 0) → Option A → Type 0
@@ -77,7 +77,7 @@ more_in P k None run p h = misshapen_off
 more_in P k (Some x) run p h = cond_both (k == 0) (off CountLimit) (behind x run) (RunIn P k) (λ _. count_off) (λ e. behind_in P k x run (eqb-false k 0 e) p h)
 
 module _ {A : Type 0} (P : A → Type 0) (keep : ℤ → Option A) (kept : (z : ℤ) → is_zero z ≡ false → unsigned_abs z ≤ limit → KeptIn P (keep z)) where
-  collect_in : (ts : List Token) (k : ℕ) → All Low ts → RunIn P k (collect keep k ts)
+  collect_in : (ts : List Token) (k : ℕ) → AllByRecursion Low ts → RunIn P k (collect keep k ts)
   collect_in [] k h = misshapen_off
   collect_in (number z ∷ ts) k h =
       cond_both (is_zero z) (got [] ts) (one_more k (keep z) (collect keep (k - 1) ts)) (RunIn P k) (λ _. (tt, omega arith, h.1))
@@ -109,7 +109,7 @@ deletion_fine : (run : Run ℕ) → RunIn Positive 256 run → Fine (deletion_of
 deletion_fine (off f) h = h
 deletion_fine (got ns ts) h = closed_fine (deletion ns) ts (h.0, h.1)
 
-hinted_fine : (n : ℕ) (ls : List ℤ) (run : Run ℕ) → Positive n → All Literal ls → length ls ≤ 64 → RunIn Positive 256 run → Fine (hinted n ls run)
+hinted_fine : (n : ℕ) (ls : List ℤ) (run : Run ℕ) → Positive n → AllByRecursion Literal ls → length ls ≤ 64 → RunIn Positive 256 run → Fine (hinted n ls run)
 hinted_fine n ls (off f) p q l h = h
 hinted_fine n ls (got hs ts) p q l h = closed_fine (addition n ls hs) ts (p, q, l, h.0, h.1)
 
@@ -117,7 +117,7 @@ addition_fine : (n : ℕ) (run : Run ℤ) → Positive n → RunIn Literal 64 ru
 addition_fine n (off f) p h = h
 addition_fine n (got ls ts) p h = hinted_fine n ls (numbers_in ts) p h.0 h.1 (collect_in Positive signless signless_in ts 256 h.2)
 
-numbered_fine : (n : ℕ) (ts : List Token) → n ≤ limit → All Low ts → Fine (numbered n ts)
+numbered_fine : (n : ℕ) (ts : List Token) → n ≤ limit → AllByRecursion Low ts → Fine (numbered n ts)
 numbered_fine n [] l h = misshapen_off
 numbered_fine n (number z ∷ ts) l h =
     cond_both (n == 0) (wrong MisshapenLine) (addition_of n (literals_in (number z ∷ ts))) Fine (λ _. misshapen_off)
@@ -125,7 +125,7 @@ numbered_fine n (number z ∷ ts) l h =
 numbered_fine n (word w ∷ ts) l h =
     cond_both (is_d w) (deletion_of (numbers_in ts)) (wrong MisshapenLine) Fine (λ _. deletion_fine (numbers_in ts) (collect_in Positive signless signless_in ts 256 h.1)) (λ _. misshapen_off)
 
-parse_fine : (ts : List Token) → All Low ts → Fine (parse ts)
+parse_fine : (ts : List Token) → AllByRecursion Low ts → Fine (parse ts)
 parse_fine [] h = misshapen_off
 parse_fine (number (pos n) ∷ ts) h = numbered_fine n ts h.0 h.1
 parse_fine (number (negsuc n) ∷ ts) h = misshapen_off
@@ -146,7 +146,7 @@ then_keeps : (place : ℕ) (stop : Bool) (p : Parsed) (r : Reading) → Fine p �
 then_keeps place stop (good x) r w h = ((w, h.0), h.1)
 then_keeps place stop (wrong f) r w h = (tt, off_at f place w)
 
-line_keeps : (place : ℕ) (stop : Bool) (ts : List Token) (r : Reading) → All Low ts → Keeps r → Keeps (line_then place stop ts r)
+line_keeps : (place : ℕ) (stop : Bool) (ts : List Token) (r : Reading) → AllByRecursion Low ts → Keeps r → Keeps (line_then place stop ts r)
 line_keeps place stop [] r l h = h
 line_keeps place stop (t ∷ ts) r l h = then_keeps place stop (parse (t ∷ ts)) r (parse_fine (t ∷ ts) l) h
 
