@@ -72,8 +72,12 @@ impl<'a, T: Copy> Fill<'a, T> {
     pub fn slot(&self, i: usize) -> Option<T>
         ensures { result ≡ slice_get (slots_of self.now) i }
     {
-        let s = &*self.slots;
-        if i < s.len() { Some(s[i]) } else { None }
+        let slots = &*self.slots;
+        if i < slots.len() {
+            Some(slots[i])
+        } else {
+            None
+        }
     }
 
     /// Writes slot `i` of the whole slice, filled or not; false where there is none.
