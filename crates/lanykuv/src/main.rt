@@ -3,12 +3,13 @@
 
 use answers::refusal::Refusal;
 use std::env;
+use std::process::ExitCode;
 
 mod commands;
 mod files;
 mod words;
 
-fn main(rt: HostRuntime) -> anyhow::Result<()> {
+fn main(rt: HostRuntime) -> anyhow::Result<ExitCode> {
     let mut args = env::args(&rt)?;
     let _name = args.next();
     match (args.next(), args.next(), args.next()) {
