@@ -104,8 +104,8 @@ pub record OneMore (bytes : List ℕ) (v o from before next line n : ℕ) (cs : 
   pub room : length (literals_of cs) + length c ≤ n
   pub place : length cs + 1 ≤ o
 
-pub one_more : (bytes : List ℕ) (v o from before at lines n : ℕ) (cs : List Clause) → Stands bytes v o from before at lines cs → Sized bytes v o from before n → (out : List ℤ) (m next line : ℕ) → NextClause bytes at lines v (leb o (length cs)) out m next line → OneMore bytes v o from before next line n cs (take m out)
-one_more bytes v o from before at lines n cs s z out m next line k =
+pub one_more_lem : (bytes : List ℕ) (v o from before at lines n : ℕ) (cs : List Clause) → Stands bytes v o from before at lines cs → Sized bytes v o from before n → (out : List ℤ) (m next line : ℕ) → NextClause bytes at lines v (leb o (length cs)) out m next line → OneMore bytes v o from before next line n cs (take m out)
+one_more_lem bytes v o from before at lines n cs s z out m next line k =
     let t = stands_more bytes v o from before at lines cs s out m next line k in
     let c = take m out in
     let g = clauses_grow v o (cs ++ c ∷ []) (rows_at bytes next line) v z.clauses (t.is ∙ z.is) in
@@ -127,7 +127,7 @@ module _ (bytes : List ℕ) (v o from before at lines n : ℕ) (k g f : Formula)
   pub met : OneMore bytes v o from before next line n i.clauses (take m out)
   met =
       let e = many ∙ ap length i.holds.clauses in
-      one_more bytes v o from before at lines n i.clauses i.stands z out m next line (subst (λ x. NextClause bytes at lines v (leb o x) out m next line) e r)
+      one_more_lem bytes v o from before at lines n i.clauses i.stands z out m next line (subst (λ x. NextClause bytes at lines v (leb o x) out m next line) e r)
 
   pub met_room : (length (filled f.literals) + length (take m out) ≤ length (literal_slots f)) × (length (filled f.spans) < length (span_slots f)) × (length (filled f.spans) < o)
   met_room =

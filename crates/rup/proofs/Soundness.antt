@@ -112,9 +112,9 @@ clause_satisfied a [] k c s e = let z : ◌≡◌ {A = ℕ} 0 1 = cc in absurd (
 clause_satisfied a (d ∷ ds) zero c s e = let q : d ≡ c = cc in subst (λ (x : Clause). satisfies_clause a x ≡ true) q (and_parts (satisfies_clause a d) (satisfies a ds) s).0
 clause_satisfied a (d ∷ ds) (suc k) c s e = clause_satisfied a ds k c (and_parts (satisfies_clause a d) (satisfies a ds) s).1 e
 
-pub named_in : (ls : List Line) (h : ℕ) (l : Line) → line_named ls h ≡ Some l → In l ls
-named_in [] h l e = let z : ◌≡◌ {A = ℕ} 0 1 = cc in absurd (omega arith)
-named_in (k ∷ ks) h l e = go (named_in ks h l) (line_named ks h) refl (eqb k.number h) e
+pub named_in_lem : (ls : List Line) (h : ℕ) (l : Line) → line_named ls h ≡ Some l → In l ls
+named_in_lem [] h l e = let z : ◌≡◌ {A = ℕ} 0 1 = cc in absurd (omega arith)
+named_in_lem (k ∷ ks) h l e = go (named_in_lem ks h l) (line_named ks h) refl (eqb k.number h) e
   where
     go : (line_named ks h ≡ Some l → In l ks) → (o : Option Line) → line_named ks h ≡ o → (b : Bool) → or_else o (only_if b k) ≡ Some l → In l (k ∷ ks)
     go ih (Some x) q b e = let z : x ≡ l = cc in inr (ih (q ∙ ap Some z))
@@ -130,7 +130,7 @@ known_satisfied a cs ls sc sl h c e = go (leb h (length cs)) e
 
     line : (o : Option Line) → line_named ls h ≡ o → option_map literals_of o ≡ Some c → satisfies_clause a c ≡ true
     line None q e = let z : ◌≡◌ {A = ℕ} 0 1 = cc in absurd (omega arith)
-    line (Some l) q e = let z : l.literals ≡ c = cc in subst (λ (x : Clause). satisfies_clause a x ≡ true) z (sl l (named_in ls h l q))
+    line (Some l) q e = let z : l.literals ≡ c = cc in subst (λ (x : Clause). satisfies_clause a x ≡ true) z (sl l (named_in_lem ls h l q))
 
     go : (b : Bool) → cond b (numbered cs h) (option_map literals_of (line_named ls h)) ≡ Some c → satisfies_clause a c ≡ true
     go true e = low h e

@@ -78,12 +78,12 @@ dark_decimal n h =
     All-from_get_or Dark (decimal n) 0
     (λ i l. let x = digit_at (decimal n) i (own.to (decimal n) (digits_decimal own n (small n h))) l in (let y = x.0 in omega arith))
 
-word_of : (w : List ℕ) → 0 < length w → AllByRecursion Dark w → Word w
-word_of [] l h = absurd (omega arith)
-word_of (c ∷ cs) l h = h
+word_of_lem : (w : List ℕ) → 0 < length w → AllByRecursion Dark w → Word w
+word_of_lem [] l h = absurd (omega arith)
+word_of_lem (c ∷ cs) l h = h
 
 pub word_decimal : (n : ℕ) → n ≤ limit → Word (decimal n)
-word_decimal n h = word_of (decimal n) (decimal_nonempty n (small n h)) (dark_decimal n h)
+word_decimal n h = word_of_lem (decimal n) (decimal_nonempty n (small n h)) (dark_decimal n h)
 
 pub word_signed : (z : ℤ) → nat_abs z ≤ limit → Word (signed_decimal z)
 word_signed (pos n) h = word_decimal n h
