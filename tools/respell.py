@@ -3,10 +3,13 @@
 
 usage: python3 tools/respell.py [FOLDER]     once, behind the kit's port.py; FOLDER is the repository's top
 
-It turns whole names by the table below, in the .antt files and in the contracts of the .rt files. A name behind a dot
-stays (a field that the checker made), but for the four fields of FIELDS, which are a record's of specs/. A lemma whose
-name would fall together with its function's gets `_lem`. The three marks of records, LA, LD and LE, are turned in the
-code of .antt files alone, since comments say them too.
+A second run would turn names that the first one made (`same_bytes`), so it is run once, on what port.py left.
+
+It turns whole names by the table below, in the .antt files, their comments too, and in the lines of .rt files that begin
+with ghost, requires or ensures. A name behind a dot stays (a field that the checker made), but for the four fields of
+FIELDS, which are a record's of specs/. A lemma whose name would fall together with a definition's by this table gets
+`_lem`. The three marks of records, LA, LD and LE, are turned in the code of .antt files alone, since comments say them
+too.
 """
 import os
 import re
@@ -519,7 +522,7 @@ def antt(text):
 
 
 def contracts(text):
-    """Only ghost lines and clauses: each of them stands on a line of its own."""
+    """Only lines that begin with ghost, requires or ensures: here each clause stands on one."""
     clause = re.compile(r"\s*(ghost\b|requires\b|ensures\b)")
     return "\n".join(turned(l, NAMES) if clause.match(l) else l for l in text.split("\n"))
 

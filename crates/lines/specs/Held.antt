@@ -48,7 +48,7 @@ line_named (l ∷ ls) h = or_else (line_named ls h) (only_if (l.number == h) l)
 abbrev pub literals_of : Line → Clause
 literals_of l = l.literals
 
--- the clause that a number names: 1 to o the formula's, any other a line's
+-- the clause that a number names: 1 to o the formula's, a higher one a line's; 0 names none
 abbrev pub clause_named : List Clause → List Line → ℕ → Option Clause
 clause_named cs ls h = cond (nat_le h (length cs)) (numbered cs h) (option_map literals_of (line_named ls h))
 

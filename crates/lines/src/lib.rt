@@ -1,4 +1,4 @@
-//! Lines of a proof in lent tables: each is found by its number in constant time.
+//! Lines of a proof in lent tables: each is found by its number through buckets.
 #![tactic(auto)]
 
 pub mod addition;

@@ -23,5 +23,5 @@ pub record Laws : Type 0 where
   pub sound : (v : ℕ) (cs : List Clause) (ls : List Line) (l : Line) (h : ℕ) → verdict v (clause_named cs ls) l ≡ Follows h → (a : Assignment) → satisfies a cs ≡ true → Satisfies a ls → satisfies_clause a l.literals ≡ true
   -- a verdict depends only on the clauses that the hints name
   pub local : (v : ℕ) (K J : Known) (l : Line) → ((h : ℕ) → In h l.hints → J h ≡ K h) → verdict v J l ≡ verdict v K l
-  -- so knowing more turns only a 26
+  -- so lines of numbers that no hint named before turn only a 26
   pub more : (v : ℕ) (K J : Known) (l : Line) → ((h : ℕ) → In h l.hints → (K h ≡ None) ⊎ (J h ≡ K h)) → HintsKnown (verdict v K l) → verdict v J l ≡ verdict v K l
