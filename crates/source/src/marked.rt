@@ -39,11 +39,7 @@ pub fn take_first<S: Marked>(
     ensures after { S.Source.items source.new ≡ dropped_if result (S.Source.items source.old) }
     ensures ending { S.Source.ending source.new ≡ S.Source.ending source.old }
 {
-    match source.fetch(literals, hints) {
-        Ok((head, mark)) => {
-            source.pass(mark);
-            Ok(head)
-        }
-        Err(refusal) => Err(refusal),
-    }
+    let (head, mark) = source.fetch(literals, hints)?;
+    source.pass(mark);
+    Ok(head)
 }
