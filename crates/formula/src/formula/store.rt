@@ -8,16 +8,6 @@ use crate::formula::Formula;
 use crate::span::Span;
 use tables::fill::Fill;
 
-// The run of a table that a span is.
-fn part_of(literals: &[i32], s: Span) -> &[i32]
-    requires { s.at + s.len ≤ length literals.now }
-    ensures { result.now ≡ part s literals.now }
-{
-    let at = s.at;
-    let end = at + s.len;
-    &literals[at..end]
-}
-
 impl<'f> Formula<'f> {
     /// A formula of no clause over one variable; the lent slots stay as they are.
     pub fn over(literals: &'f mut [i32], spans: &'f mut [Span]) -> Formula<'f>
@@ -55,12 +45,7 @@ impl<'f> Formula<'f> {
         ensures is { option_map (λ x. x.now) result ≡ numbered (clauses_of self.now) number }
         ensures limits { IfSome result (λ c. Ranged (variables_of self.now) c.now) }
     {
-        if number == 0 {
-            return None;
-        }
-        let Some(s) = self.spans.get(number - 1) else {
-            return None;
-        };
-        Some(part_of(self.literals.as_slice(), s))
+        let span = self.spans.get(number.checked_sub(1)?)?;
+        Some(span.of(self.literals.as_slice()))
     }
 }

@@ -1,25 +1,15 @@
-use Rattle.std.proofs.Common.{ℕ, ◌+◌, ◌≤◌, length, Some, None, sym, ap, ◌∙◌, subst}
+use Rattle.std.proofs.Common.{◌-◌, ◌≤◌, Some, sym, ap, ◌∙◌, subst, arith}
+use Rattle.std.specs.Option.{SomeIff}
+use Rattle.std.specs.List.{slice_get}
 use Rattle.tables.specs.Filled.{filled}
-use Rattle.formula.specs.Spans.{part, Ranged}
-use Rattle.formula.proofs.SpanParts.{inside_nth, numbered_part, ranged_part}
+use Rattle.formula.specs.Spans.{part}
+use Rattle.formula.proofs.SpanParts.{numbered_part}
 use Rattle.formula.proofs.formula.Formula.clause.Goals as goal
 
-pub returns-in_default : goal.returns-in_default
-returns-in_default c =
+pub returns-clause-is : goal.returns-clause-is
+returns-clause-is c =
     let f = c.args.self.now in
-    record { is = numbered_part (filled f.literals) (filled f.spans) c.args.number None c.if-number-eq0.false (sym c.in_default.is ∙ c.get.ensures); limits = tt }
-
-pub part_of-requires : goal.part_of-requires
-part_of-requires c =
-    let f = c.args.self.now in
-    let s = c.in-Some.s in
-    let w = inside_nth (length (filled f.literals)) (filled f.spans) _ s f.inside (sym c.get.ensures ∙ c.in-Some.is) in
-    subst (λ (n : ℕ). s.at + s.len ≤ n) (sym (ap length c.as_slice.ensures)) w
-
-pub returns : goal.returns
-returns c =
-    let f = c.args.self.now in
-    let s = c.in-Some.s in
-    let p = c.part_of.ensures ∙ ap (part s) c.as_slice.ensures in
-    let n = numbered_part (filled f.literals) (filled f.spans) c.args.number (Some s) c.if-number-eq0.false (sym c.in-Some.is ∙ c.get.ensures) in
-    record { is = ap Some p ∙ n; limits = subst (Ranged f.variables) (sym p) (ranged_part f.variables (filled f.literals) s f.ranged) }
+    let n = c.args.number in
+    let i = subst (λ o. SomeIff o (1 ≤ n) (n - 1)) c.in_ok-checked_sub.was c.checked_sub.ensures in
+    let e = sym c.in_ok-span.was ∙ c.get.ensures ∙ ap (slice_get (filled f.spans)) i.1 in
+    ap Some (c.of.ensures ∙ ap (part c.in_ok-span.span) c.as_slice.ensures) ∙ numbered_part (filled f.literals) (filled f.spans) n (Some c.in_ok-span.span) (λ z. omega (arith, i.0)) e
