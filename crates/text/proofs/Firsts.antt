@@ -1,5 +1,6 @@
 -- The first word of a line, and the number in it.
-use Rattle.std.proofs.Common.{◌≡◌, ℕ, suc, ◌+◌, ◌-◌, ◌*◌, true, false, cond, ◌&&◌, eqb, leb, List, [], ◌∷◌, ◌++◌, length, Some, None, sym, refl, ap, ◌∙◌, inl, inr, zero-add, arith}
+use Rattle.std.proofs.Common.{◌≡◌, ℕ, suc, ◌+◌, ◌-◌, ◌*◌, ◌<◌, true, false, cond, ◌&&◌, eqb, leb, List, [], ◌∷◌, ◌++◌, length, get_or, take, Some, None, sym, refl, ap, ◌∙◌, inl, inr, zero-add, arith}
+use Rattle.std.proofs.lemmas.List.{take_at}
 use Rattle.std.proofs.lemmas.Bool.{true≢false, ne_eqb, cases_Bool, or_parts, or_from}
 use Rattle.std.proofs.lemmas.Bool.Decides.{nat_tests}
 use Rattle.text.proofs.Steps.{digit_goes}
@@ -120,3 +121,18 @@ word_length (c ∷ cs) =
 pub word_split : (bs : List ℕ) → word_of bs ++ behind_word bs ≡ bs
 word_split [] = refl
 word_split (c ∷ cs) = elim (cases_Bool (ends c)) [ inl e ↦ simp e | inr e ↦ simp e (ap (λ r. c ∷ r) (word_split cs)) ]
+
+-- the bytes of a word, by what stands behind it
+pub word_taken : (bs : List ℕ) → take (length bs - length (behind_word bs)) bs ≡ word_of bs
+word_taken bs =
+    let l : length (word_of bs) ≡ length bs - length (behind_word bs) = omega (arith, word_length bs) in
+    ap (take (length bs - length (behind_word bs))) (sym (word_split bs)) ∙ take_at (word_of bs) (behind_word bs) (length bs - length (behind_word bs)) l
+
+-- no word stands at the front
+pub word_over : (bs : List ℕ) → length bs < 1 → behind_word bs ≡ bs
+word_over [] h = refl
+word_over (c ∷ cs) h = absurd (omega arith)
+
+pub word_stays : (bs : List ℕ) → ends (get_or bs 0 0) ≡ true → behind_word bs ≡ bs
+word_stays [] e = refl
+word_stays (c ∷ cs) e = simp e

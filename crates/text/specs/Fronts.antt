@@ -1,6 +1,7 @@
--- A text from a position on: its first line, what stands behind that, the tokens left in it; and what a scan tells.
+-- The front of a text: its first line, what stands behind that, the tokens left in it; and what a scan tells.
 -- Assumes nothing.
-use Rattle.std.specs.Prelude.{◌≡◌, ℕ, ◌+◌, ◌-◌, ◌*◌, ◌<◌, ◌≤◌, Bool, true, false, cond, ◌||◌, List, [], ◌∷◌, length, take, drop, Some, None, Option, ◌==◌, nat_le}
+use Rattle.std.specs.Prelude.{◌≡◌, ℕ, ◌+◌, ◌-◌, ◌*◌, ◌<◌, ◌≤◌, Bool, true, false, cond, ◌||◌, List, [], ◌∷◌, length, ℤ, Some, None, Option, ◌==◌, nat_le}
+use denote.Bor.{Bor}
 use Rattle.text.specs.Words.{limit, blank, digit, natural, Token, token_of, tokens_of}
 use Rattle.text.specs.Words.Token.{number, word}
 use Rattle.text.specs.declared.scan.Scan.{Scan}
@@ -24,6 +25,10 @@ fed (c ∷ cs) = cond (c == 10) true (fed cs)
 -- the tokens that are left in the first line
 abbrev pub tokens_left : List ℕ → List Token
 tokens_left bs = tokens_of (line_of bs)
+
+abbrev pub no_tokens : List Token → Bool
+no_tokens [] = true
+no_tokens (t ∷ ts) = false
 
 -- a byte that ends a word
 abbrev pub ends : ℕ → Bool
@@ -56,65 +61,55 @@ abbrev pub number_from : ℕ → List ℕ → Option ℕ
 number_from n [] = within n
 number_from n (c ∷ cs) = cond (ends c) (within n) (cond (digit c) (number_from (n * 10 + (c - 48)) cs) None)
 
--- from `from` on the line goes on with the token t, which ends at `next`: the first byte behind the token's word
-pub record Goes (bytes : List ℕ) (from : ℕ) (t : Token) (next : ℕ) : Type 0 where
-  pub tokens : tokens_left (drop from bytes) ≡ t ∷ tokens_left (drop next bytes)
-  pub rest : drop next bytes ≡ behind_word (unblanked (drop from bytes))
-  pub line : behind_line (drop from bytes) ≡ behind_line (drop next bytes)
-  pub feed : fed (drop from bytes) ≡ fed (drop next bytes)
-  pub after : from < next
-  pub inside : next ≤ length bytes
+-- the line goes on with the token t, behind whose word `rest` stands
+pub record Goes (text : List ℕ) (t : Token) (rest : List ℕ) : Type 0 where
+  pub tokens : tokens_left text ≡ t ∷ tokens_left rest
+  pub word : rest ≡ behind_word (unblanked text)
+  pub line : behind_line text ≡ behind_line rest
+  pub feed : fed text ≡ fed rest
+  pub shorter : length rest < length text
 
--- no token is left in the line, which a line feed ends: the next one begins at `next`
-pub record Stops (bytes : List ℕ) (from next : ℕ) : Type 0 where
-  pub tokens : tokens_left (drop from bytes) ≡ []
-  pub line : behind_line (drop from bytes) ≡ drop next bytes
-  pub feed : fed (drop from bytes) ≡ true
-  pub after : from < next
-  pub inside : next ≤ length bytes
+-- no token is left in the line, which a line feed ends: `rest` stands behind that
+pub record Stops (text rest : List ℕ) : Type 0 where
+  pub tokens : tokens_left text ≡ []
+  pub line : behind_line text ≡ rest
+  pub feed : fed text ≡ true
+  pub shorter : length rest < length text
 
 -- no token is left in the line, and no line behind it
-pub record Ends (bytes : List ℕ) (from : ℕ) : Type 0 where
-  pub tokens : tokens_left (drop from bytes) ≡ []
-  pub line : behind_line (drop from bytes) ≡ []
-  pub feed : fed (drop from bytes) ≡ false
+pub record Ends (text : List ℕ) : Type 0 where
+  pub tokens : tokens_left text ≡ []
+  pub line : behind_line text ≡ []
+  pub feed : fed text ≡ false
 
--- what a scan from `from` on tells
-abbrev pub Told : List ℕ → ℕ → Scan → Type 0
-Told bytes from (Number z next) = Goes bytes from (number z) next
-Told bytes from (Word at next) = Goes bytes from (word (take (next - at) (drop at bytes))) next × (from ≤ at) × (at < next)
-Told bytes from (LineEnd next) = Stops bytes from next
-Told bytes from TextEnd = Ends bytes from
+-- what a scan tells
+abbrev pub Told : List ℕ → Scan → Type 0
+Told text (Number z rest) = Goes text (number z) rest.now
+Told text (Word w rest) = Goes text (word w.now) rest.now × (0 < length w.now)
+Told text (LineEnd rest) = Stops text rest.now
+Told text TextEnd = Ends text
 
--- a line passed over: where the next one begins, if a line feed ends this one
-abbrev pub Passed : List ℕ → ℕ → Option ℕ → Type 0
-Passed bytes from (Some next) = (fed (drop from bytes) ≡ true) × (behind_line (drop from bytes) ≡ drop next bytes) × (from < next) × (next ≤ length bytes)
-Passed bytes from None = (fed (drop from bytes) ≡ false) × (behind_line (drop from bytes) ≡ [])
-
--- what the digits of a word behind a number come to, and where the word ends
-pub record Sized (bytes : List ℕ) (from first n next : ℕ) : Type 0 where
-  pub is : number_from first (drop from bytes) ≡ Some n
-  pub rest : drop next bytes ≡ behind_word (drop from bytes)
+-- what the digits of a word behind a number come to, and what stands behind the word
+pub record Sized (text : List ℕ) (first n : ℕ) (rest : List ℕ) : Type 0 where
+  pub is : number_from first text ≡ Some n
+  pub word : rest ≡ behind_word text
   pub low : n ≤ limit
-  pub after : from ≤ next
-  pub inside : next ≤ length bytes
 
-abbrev pub Digits : List ℕ → ℕ → ℕ → Option (ℕ × ℕ) → Type 0
-Digits bytes from first None = number_from first (drop from bytes) ≡ None
-Digits bytes from first (Some p) = Sized bytes from first p.0 p.1
+abbrev pub Digits : List ℕ → ℕ → Option (ℕ × Bor (List ℕ)) → Type 0
+Digits text first None = number_from first text ≡ None
+Digits text first (Some p) = Sized text first p.0 p.1.now
 
--- the number that the word at `from` is, and where the word ends
-pub record Natural (bytes : List ℕ) (from n next : ℕ) : Type 0 where
-  pub is : natural (word_of (drop from bytes)) ≡ Some n
-  pub rest : drop next bytes ≡ behind_word (drop from bytes)
+-- the number that the word at the front is, and what stands behind the word
+pub record Natural (text : List ℕ) (n : ℕ) (rest : List ℕ) : Type 0 where
+  pub is : natural (word_of text) ≡ Some n
+  pub word : rest ≡ behind_word text
   pub low : n ≤ limit
-  pub after : from < next
-  pub inside : next ≤ length bytes
 
-abbrev pub Naturals : List ℕ → ℕ → Option (ℕ × ℕ) → Type 0
-Naturals bytes from None = natural (word_of (drop from bytes)) ≡ None
-Naturals bytes from (Some p) = Natural bytes from p.0 p.1
+abbrev pub Naturals : List ℕ → Option (ℕ × Bor (List ℕ)) → Type 0
+Naturals text None = natural (word_of text) ≡ None
+Naturals text (Some p) = Natural text p.0 p.1.now
 
--- the word at `at` is no number
-abbrev pub Other : List ℕ → ℕ → Type 0
-Other bytes at = token_of (word_of (drop at bytes)) ≡ word (word_of (drop at bytes))
+-- the word at the front as a number, or as it stands
+abbrev pub Numbers : List ℕ → Option (ℤ × Bor (List ℕ)) → Type 0
+Numbers text None = token_of (word_of text) ≡ word (word_of text)
+Numbers text (Some p) = (token_of (word_of text) ≡ number p.0) × (p.1.now ≡ behind_word text)

@@ -1,7 +1,8 @@
-//! Tokens and lines of a byte slice, from a position on. A position behind the end means the end.
-ghost use Rattle.std.specs.Prelude.{◌≡◌, ◌<◌, ◌≤◌, false, length, drop, slice_index};
-ghost use Rattle.text.specs.Words.{limit, blank, digit};
-ghost use Rattle.text.specs.Fronts.{ends, unblanked, behind_word, at_end, Told, Passed, Digits, Naturals, Other};
+//! The tokens and lines at the front of a text, and what stands behind them.
+ghost use Rattle.std.specs.Prelude.{◌≡◌, ◌-◌, ◌<◌, ◌≤◌, false, cond, None, Some, length, IfSome};
+ghost use Rattle.std.specs.Option.{option_map};
+ghost use Rattle.text.specs.Words.{limit, blank};
+ghost use Rattle.text.specs.Fronts.{ends, unblanked, word_of, behind_word, behind_line, fed, tokens_left, no_tokens, Told, Digits, Naturals, Numbers};
 
 use crate::scan::Scan;
 
@@ -14,12 +15,6 @@ fn is_blank(b: u8) -> bool
     b == b' ' || b == b'\t'
 }
 
-fn is_digit(b: u8) -> bool
-    ensures { result ≡ digit b }
-{
-    b >= b'0' && b <= b'9'
-}
-
 // Whether the byte ends a word.
 fn is_end(b: u8) -> bool
     ensures { result ≡ ends b }
@@ -27,137 +22,134 @@ fn is_end(b: u8) -> bool
     is_blank(b) || b == b'\n'
 }
 
-// Behind the spaces and tabs from `from` on.
-fn skip_blanks(bytes: &[u8], from: usize) -> usize
-    ensures rest { drop result bytes.now ≡ unblanked (drop from bytes.now) }
-    ensures after { from ≤ result }
-    ensures stops { result < length bytes.now → blank (slice_index bytes.now result) ≡ false }
+// The text without the blanks at its front.
+fn skip_blanks(text: &[u8]) -> &[u8]
+    ensures { result.now ≡ unblanked text.now }
 {
-    let mut i = from;
-    while i < bytes.len() && is_blank(bytes[i]) {
-        i += 1;
+    let mut rest = text;
+    while let [first, behind @ ..] = rest {
+        if !is_blank(*first) {
+            break;
+        }
+        rest = behind;
     }
-    i
+    rest
 }
 
-// Whether no byte of a word stands at `at`.
-fn at_end(bytes: &[u8], at: usize) -> bool
-    ensures { result ≡ at_end (drop at bytes.now) }
+// The word at the front, and what stands behind it.
+fn split_word(text: &[u8]) -> (&[u8], &[u8])
+    ensures word { result.0.now ≡ word_of text.now }
+    ensures rest { result.1.now ≡ behind_word text.now }
 {
-    if at < bytes.len() {
-        is_end(bytes[at])
-    } else {
-        true
+    let mut rest = text;
+    while let [first, behind @ ..] = rest {
+        if is_end(*first) {
+            break;
+        }
+        rest = behind;
     }
+    (&text[..text.len() - rest.len()], rest)
 }
 
-// Where the word at `at` ends.
-fn skip_word(bytes: &[u8], at: usize) -> usize
-    requires { at ≤ length bytes.now }
-    ensures rest { drop result bytes.now ≡ behind_word (drop at bytes.now) }
-    ensures after { at ≤ result }
-    ensures inside { result ≤ length bytes.now }
-{
-    let mut i = at;
-    while i < bytes.len() && !is_end(bytes[i]) {
-        i += 1;
-    }
-    i
-}
-
-// The digits from `from` on, behind a first digit: the number, and where the word ends.
-fn digits(bytes: &[u8], from: usize, first: u64) -> Option<(u64, usize)>
-    requires { (from ≤ length bytes.now) × (first ≤ limit) }
-    ensures { Digits bytes.now from first result }
+// The number that the digits up to the end of the word make behind a first one.
+fn digits(text: &[u8], first: u64) -> Option<(u64, &[u8])>
+    requires { first ≤ limit }
+    ensures { Digits text.now first result }
 {
     let mut size = first;
-    let mut i = from;
-    while i < bytes.len() && is_digit(bytes[i]) && size <= LIMIT {
-        size = size * 10 + (bytes[i] - b'0') as u64;
-        i += 1;
-    }
-    if size <= LIMIT && at_end(bytes, i) {
-        Some((size, i))
-    } else {
-        None
-    }
-}
-
-// The word at `at` as a number without a sign.
-fn natural(bytes: &[u8], at: usize) -> Option<(u64, usize)>
-    requires { at ≤ length bytes.now }
-    ensures { Naturals bytes.now at result }
-{
-    if at >= bytes.len() {
-        return None;
-    }
-    let b = bytes[at];
-    if !is_digit(b) {
-        return None;
-    }
-    let Some((n, next)) = digits(bytes, at + 1, (b - b'0') as u64) else {
-        return None;
-    };
-    if b == b'0' && next > at + 1 {
-        None
-    } else {
-        Some((n, next))
-    }
-}
-
-// The word at `at`, which is no number.
-fn other_word(bytes: &[u8], at: usize) -> Scan
-    requires { (at < length bytes.now) × ((ends (slice_index bytes.now at) ≡ false) × (Other bytes.now at)) }
-    ensures { Told bytes.now at result }
-{
-    Scan::Word(at, skip_word(bytes, at))
-}
-
-// The word at `at`.
-fn word(bytes: &[u8], at: usize) -> Scan
-    requires { (at < length bytes.now) × (ends (slice_index bytes.now at) ≡ false) }
-    ensures { Told bytes.now at result }
-{
-    match bytes[at] as char {
-        '-' => match natural(bytes, at + 1) {
-            Some((n, next)) => if n > 0 {
-                Scan::Number(-(n as i32), next)
-            } else {
-                other_word(bytes, at)
-            },
-            None => other_word(bytes, at),
-        },
-        _ => match natural(bytes, at) {
-            Some((n, next)) => Scan::Number(n as i32, next),
-            None => other_word(bytes, at),
-        },
-    }
-}
-
-/// The next token of the line, from `from` on, or how the line ends.
-pub fn scan(bytes: &[u8], from: usize) -> Scan
-    ensures { Told bytes.now from result }
-{
-    let at = skip_blanks(bytes, from);
-    if at >= bytes.len() {
-        return Scan::TextEnd;
-    }
-    if bytes[at] == b'\n' {
-        return Scan::LineEnd(at + 1);
-    }
-    word(bytes, at)
-}
-
-/// Where the line behind this one begins, if a line feed ends this one.
-pub fn skip_line(bytes: &[u8], from: usize) -> Option<usize>
-    ensures { Passed bytes.now from result }
-{
-    let mut i = from;
-    while i < bytes.len() {
-        if bytes[i] == b'\n' {
-            return Some(i + 1);
+    let mut rest = text;
+    while let [b, behind @ ..] = rest {
+        if is_end(*b) {
+            break;
         }
-        i += 1;
+        if !b.is_ascii_digit() || size > LIMIT {
+            return None;
+        }
+        size = size * 10 + (*b - b'0') as u64;
+        rest = behind;
+    }
+    if size <= LIMIT {
+        Some((size, rest))
+    } else {
+        None
+    }
+}
+
+// The word at the front as a number without a sign: 0, or digits without a leading zero.
+fn natural(text: &[u8]) -> Option<(u64, &[u8])>
+    ensures { Naturals text.now result }
+{
+    let (first, behind) = text.split_first()?;
+    if !first.is_ascii_digit() {
+        return None;
+    }
+    let (n, rest) = digits(behind, (*first - b'0') as u64)?;
+    if *first == b'0' && rest.len() < behind.len() {
+        None
+    } else {
+        Some((n, rest))
+    }
+}
+
+// The word at the front as a number: there is no -0.
+fn number(text: &[u8]) -> Option<(i32, &[u8])>
+    ensures { Numbers text.now result }
+{
+    match text {
+        [b'-', behind @ ..] => match natural(behind)? {
+            (0, _) => None,
+            (n, rest) => Some((-(n as i32), rest)),
+        },
+        _ => {
+            let (n, rest) = natural(text)?;
+            Some((n as i32, rest))
+        }
+    }
+}
+
+/// The next token of the line, or how the line ends.
+pub fn scan(text: &[u8]) -> Scan<'_>
+    ensures { Told text.now result }
+{
+    let front = skip_blanks(text);
+    let Some((first, behind)) = front.split_first() else {
+        return Scan::TextEnd;
+    };
+    if *first == b'\n' {
+        return Scan::LineEnd(behind);
+    }
+    match number(front) {
+        Some((z, rest)) => Scan::Number(z, rest),
+        None => {
+            let (word, rest) = split_word(front);
+            Scan::Word(word, rest)
+        }
+    }
+}
+
+/// What stands behind the line, if no token is left in it.
+pub fn line_end(text: &[u8]) -> Option<&[u8]>
+    ensures is { option_map (λ x. x.now) result ≡ cond (no_tokens (tokens_left text.now)) (Some (behind_line text.now)) None }
+    ensures shorter { IfSome result (λ x. length x.now ≤ length text.now - 1) }
+{
+    match scan(text) {
+        Scan::LineEnd(rest) => Some(rest),
+        Scan::TextEnd => Some(&text[text.len()..]),
+        Scan::Number(_, _) | Scan::Word(_, _) => None,
+    }
+}
+
+/// What stands behind the line, if a line feed ends it.
+pub fn skip_line(text: &[u8]) -> Option<&[u8]>
+    ensures is { option_map (λ x. x.now) result ≡ cond (fed text.now) (Some (behind_line text.now)) None }
+    ensures shorter { IfSome result (λ x. length x.now < length text.now) }
+{
+    let mut rest = text;
+    while let [first, behind @ ..] = rest {
+        if *first == b'\n' {
+            return Some(behind);
+        }
+        rest = behind;
     }
     None
 }

@@ -1,28 +1,34 @@
--- The word at a place as a number without a sign.
-use Rattle.std.proofs.Common.{◌≡◌, ◌+◌, ◌≤◌, get_or, sym, arith}
-use Rattle.text.proofs.Tells.{nat_past, nat_none, nat_digits_none, nat_zero_long, nat_sized}
+-- The word at the front as a number without a sign.
+use Rattle.std.proofs.Common.{◌≡◌, ◌-◌, ◌≤◌, true, length, sym, ap, ◌∙◌, subst}
+use Rattle.text.specs.Words.{natural, digit}
+use Rattle.text.specs.Fronts.{word_of, Digits, Natural, Naturals}
+use Rattle.text.proofs.Tells.{nat_none, nat_zero, nat_sized}
 use Rattle.text.proofs.scanner.natural.Goals as goal
-use Rattle.text.proofs.scanner.natural.Goals.{else-b-eq48-via-then-b-eq48+else-next-at, else-b-eq48-via-else-b-eq48}
+use Rattle.text.proofs.scanner.natural.Goals.{else-first-eq48-via-then-first-eq48+else-rest-behind, else-first-eq48-via-else-first-eq48}
 
-pub returns-then-at-bytes : goal.returns-then-at-bytes
-returns-then-at-bytes c = nat_past c.args.bytes.now c.args.at c.if-at-bytes.true
+pub returns-in_err-n : goal.returns-in_err-n
+returns-in_err-n c =
+    let text = c.args.text.now in
+    let first = c.in_ok-first.first.now in
+    let behind = c.in_ok-first.behind.now in
+    let d : digit first ≡ true = sym c.is_ascii_digit.ensures.value ∙ c.if-not-is_ascii_digit.false in
+    let n = subst (Digits behind (first - 48)) c.in_err-n.was c.digits.ensures in
+    subst (Naturals text) (sym c.from_residual-in_err-n.ensures) (ap (λ t. natural (word_of t)) c.in_ok-first.ensures.cases.0 ∙ nat_none first behind d n)
 
-pub returns-then-not-is_digit : goal.returns-then-not-is_digit
-returns-then-not-is_digit c = nat_none c.args.bytes.now c.args.at c.if-at-bytes.false (sym c.if-not-is_digit.ensures)
+pub returns-then-rest-behind : goal.returns-then-rest-behind
+returns-then-rest-behind c =
+    let first = c.in_ok-first.first.now in
+    let behind = c.in_ok-first.behind.now in
+    ap (λ t. natural (word_of t)) c.in_ok-first.ensures.cases.0 ∙ nat_zero first behind c.in_ok-n.n c.in_ok-n.rest.now c.if-first-eq48.true c.in_ok-n.ensures c.if-rest-behind.true
 
-pub returns-in_default : goal.returns-in_default
-returns-in_default c = nat_digits_none c.args.bytes.now c.args.at c.if-at-bytes.false (sym c.if-not-is_digit.ensures) c.in_default.ensures
-
-pub returns-then-next-at : goal.returns-then-next-at
-returns-then-next-at c = nat_zero_long c.args.bytes.now c.args.at c.if-at-bytes.false c.in-Some.n c.in-Some.next c.if-b-eq48.true c.in-Some.ensures (omega (arith, c.if-next-at.true))
-
-pub returns-else-b-eq48 : goal.returns-else-b-eq48
-returns-else-b-eq48 c =
-    let bs = c.args.bytes.now in
-    let at = c.args.at in
-    let s : get_or bs at 0 ≡ 48 → c.in-Some.next ≤ at + 1 =
-    elim c.else-b-eq48.branch [
-      | else-b-eq48-via-then-b-eq48+else-next-at w ↦ λ z. omega (arith, w.if-next-at.false)
-      | else-b-eq48-via-else-b-eq48 w ↦ λ z. absurd (w.if-b-eq48.false z)
+pub returns-else-first-eq48 : goal.returns-else-first-eq48
+returns-else-first-eq48 c =
+    let first = c.in_ok-first.first.now in
+    let behind = c.in_ok-first.behind.now in
+    let rest = c.in_ok-n.rest.now in
+    let d : digit first ≡ true = sym c.is_ascii_digit.ensures.value ∙ c.if-not-is_ascii_digit.false in
+    let s : first ≡ 48 → length behind ≤ length rest = elim c.else-first-eq48.branch [
+      | else-first-eq48-via-then-first-eq48+else-rest-behind w ↦ λ z. w.if-rest-behind.false
+      | else-first-eq48-via-else-first-eq48 w ↦ λ z. absurd (w.if-first-eq48.false z)
     ] in
-    nat_sized bs at c.if-at-bytes.false c.in-Some.n c.in-Some.next (sym c.if-not-is_digit.ensures) s c.in-Some.ensures
+    subst (λ t. Natural t c.in_ok-n.n rest) (sym c.in_ok-first.ensures.cases.0) (nat_sized first behind c.in_ok-n.n rest d s c.in_ok-n.ensures)

@@ -1,10 +1,10 @@
 -- What the loop over a line's bytes keeps.
-use Rattle.std.proofs.Common.{◌≡◌, ◌-◌, ◌≤◌, length, drop}
+use Rattle.std.proofs.Common.{◌≡◌, ◌≤◌, length}
 use Rattle.text.specs.Fronts.{behind_line, fed}
 use Rattle.text.proofs.scanner.skip_line.Given as goal
 
-abbrev pub invariant-loop-i : goal.invariant-loop-i
-invariant-loop-i l = (behind_line (drop l.i l.bytes) ≡ behind_line (drop l.from l.bytes)) × (fed (drop l.i l.bytes) ≡ fed (drop l.from l.bytes)) × (l.from ≤ l.i)
+abbrev pub invariant-loop-rest : goal.invariant-loop-rest
+invariant-loop-rest l = (behind_line l.rest ≡ behind_line l.text) × (fed l.rest ≡ fed l.text) × (length l.rest ≤ length l.text)
 
-abbrev pub decreases-loop-i : goal.decreases-loop-i
-decreases-loop-i l = length l.bytes - l.i
+abbrev pub decreases-loop-rest : goal.decreases-loop-rest
+decreases-loop-rest l = length l.rest
