@@ -1,1 +1,1 @@
-pub mod TextSteps
+pub mod Spaces

@@ -1,26 +1,41 @@
-//! Lists of numbers, written behind a text.
-ghost use Rattle.std.specs.Prelude.{◌≡◌, ◌++◌, string_bytes, OnOk};
-ghost use Rattle.plain_text.specs.Texts.{literals_text, numbers_text};
+//! Lists of numbers as a text has them.
+ghost use Rattle.std.specs.Prelude.{◌≡◌, ℕ, List, Some, decimal, refl};
+ghost use Rattle.std.specs.Fmt.{signed_decimal};
+ghost use Rattle.plain_text.specs.Texts.{spaced};
 
 use std::fmt;
-use std::fmt::Write;
 
-/// Writes literals behind the text, with a space behind each.
-pub fn push_literals(out: &mut String, literals: &[i32]) -> fmt::Result
-    ensures { OnOk result (string_bytes out.new ≡ string_bytes out.old ++ literals_text literals.now) }
-{
-    for l in literals {
-        write!(out, "{l} ")?;
-    }
-    Ok(())
+/// A number that a text has in decimal.
+pub trait Decimal: fmt::Display {
+    ghost digits: { Self → List ℕ };
+
+    /// It is printed so.
+    ghost printed: { (x : Self) → Self.Display.output x ≡ Some (digits x) };
 }
 
-/// Writes hints or deleted numbers behind the text, with a space behind each.
-pub fn push_numbers(out: &mut String, numbers: &[u32]) -> fmt::Result
-    ensures { OnOk result (string_bytes out.new ≡ string_bytes out.old ++ numbers_text numbers.now) }
-{
-    for n in numbers {
-        write!(out, "{n} ")?;
+impl Decimal for i32 {
+    ghost digits = { signed_decimal };
+
+    ghost printed = { λ x. refl };
+}
+
+impl Decimal for u32 {
+    ghost digits = { decimal };
+
+    ghost printed = { λ x. refl };
+}
+
+/// Numbers with a space behind each.
+#[derive(Clone, Copy)]
+pub struct Spaced<'a, T>(pub &'a [T]);
+
+impl<T: Decimal> fmt::Display for Spaced<'_, T> {
+    ghost output = { λ s. Some (spaced T.digits s.0.now) };
+
+    fn fmt<W: fmt::Write>(&self, f: &mut fmt::Formatter<W>) -> fmt::Result {
+        for number in self.0 {
+            write!(f, "{number} ")?;
+        }
+        Ok(())
     }
-    Ok(())
 }

@@ -1,2 +1,1 @@
-pub mod Behinds
 pub mod ListSteps

@@ -1,11 +1,9 @@
 -- The list of a source in words. Assumes nothing.
-use Rattle.std.specs.Prelude.{ℕ, ◌≤◌, List, [], ◌∷◌, ◌++◌, take, ℤ, codes, decimal}
+use Rattle.std.specs.Prelude.{ℕ, List, [], ◌∷◌, ◌++◌, ℤ, codes, decimal}
 use Rattle.std.specs.List.{flat_map}
 use Rattle.answers.specs.declared.fault.Fault.{Fault}
 use Rattle.answers.specs.Numbers.{number_of}
 use Rattle.plain_text.specs.Texts.{literals_text, numbers_text}
-use Rattle.source.specs.declared.head.Head.{Head}
-use Rattle.source.specs.declared.head.Head.TheVariants.{Addition, Deletion}
 use Rattle.source.specs.Items.{Item, addition, deletion, Placed, Ending}
 
 -- an addition as LRAT text, with its place in front
@@ -26,13 +24,3 @@ ending_text f place = codes "ending number=" ++ (decimal (number_of f) ++ (codes
 -- a line for each item, then the ending
 abbrev pub listing : List Placed → Ending → List ℕ
 listing xs e = flat_map (λ x. item_text x.place x.item) xs ++ ending_text e.fault e.place
-
--- what a look answered and wrote
-abbrev pub head_text : Head → List ℤ → List ℕ → List ℕ
-head_text (Addition n l h place) ls hs = addition_text place n (take l ls) (take h hs)
-head_text (Deletion h place) ls hs = deletion_text place (take h hs)
-
--- the counts of a look are within its buffers
-abbrev pub Counts : Head → Type 0
-Counts (Addition n l h place) = (l ≤ 64) × (h ≤ 256)
-Counts (Deletion h place) = h ≤ 256
