@@ -19,8 +19,7 @@ impl<'a, T: Copy> Fill<'a, T> {
     pub fn len(&self) -> usize
         ensures { result ≡ length (filled self.now) }
     {
-        let n = self.slots.len();
-        if self.len < n { self.len } else { n }
+        self.len.min(self.slots.len())
     }
 
     /// How many more elements there is space for.
@@ -41,19 +40,18 @@ impl<'a, T: Copy> Fill<'a, T> {
     pub fn as_slice(&self) -> &[T]
         ensures { result.now ≡ filled self.now }
     {
-        let n = self.len();
-        &self.slots[0..n]
+        &self.slots[..self.len()]
     }
 
     /// The element at `i`, counted from 0.
     pub fn get(&self, i: usize) -> Option<T>
         ensures { result ≡ slice_get (filled self.now) i }
     {
-        let s = self.as_slice();
-        if i < s.len() { Some(s[i]) } else { None }
+        self.as_slice().get(i).copied()
     }
 
     /// Puts `x` in the place of the element at `i`; false where there is none.
+    #[tactic(auto, using(crate::proofs::Fronts::set_front))]
     pub fn set(&mut self, i: usize, x: T) -> bool
         ensures answer { result ≡ nat_lt i (length (filled self.old)) }
         ensures list { filled self.new ≡ put (filled self.old) i x }
@@ -72,15 +70,11 @@ impl<'a, T: Copy> Fill<'a, T> {
     pub fn slot(&self, i: usize) -> Option<T>
         ensures { result ≡ slice_get (slots_of self.now) i }
     {
-        let slots = &*self.slots;
-        if i < slots.len() {
-            Some(slots[i])
-        } else {
-            None
-        }
+        self.slots.get(i).copied()
     }
 
     /// Writes slot `i` of the whole slice, filled or not; false where there is none.
+    #[tactic(auto, using(crate::proofs::Fronts::set_front))]
     pub fn set_slot(&mut self, i: usize, x: T) -> bool
         ensures answer { result ≡ nat_lt i (capacity_of self.old) }
         ensures list { filled self.new ≡ put (filled self.old) i x }
@@ -96,6 +90,7 @@ impl<'a, T: Copy> Fill<'a, T> {
     }
 
     /// Puts `x` behind the others; false where there is no space.
+    #[tactic(auto, using(crate::proofs::Overs::over_next))]
     pub fn push(&mut self, x: T) -> bool
         ensures answer { result ≡ fits self.old 1 }
         ensures list { filled self.new ≡ (if result then filled self.old ++ (x ∷ []) else filled self.old) }
@@ -121,9 +116,10 @@ impl<'a, T: Copy> Fill<'a, T> {
         if self.space() < xs.len() {
             return false;
         }
-        for x in xs {
-            let _ = self.push(*x);
-        }
+        let from = self.len();
+        let end = from + xs.len();
+        self.slots[from..end].copy_from_slice(xs);
+        self.len = end;
         true
     }
 
