@@ -1,12 +1,14 @@
 -- The line of a clause, and the clause of a number. Assumes nothing.
-use Rattle.std.proofs.Common.{◌≡◌, ℕ, ◌+◌, ◌<◌, List, [], ◌∷◌, ◌++◌, map, length, get_or, Some, codes, decimal, sym, refl, ap, ◌∙◌, append_assoc, add-one, arith}
+use Rattle.std.proofs.Common.{◌≡◌, ℕ, List, [], ◌∷◌, ◌++◌, map, ℤ, codes, decimal, sym, refl, ap, ◌∙◌, append_assoc, arith}
 use Rattle.std.specs.Fmt.{signed_decimal}
 use Rattle.std.proofs.lemmas.Fmt.{decimal_digit}
-use Rattle.std.proofs.lemmas.Option.{slice_get-get_or}
 use Rattle.text.specs.Written.{spaced}
 use Rattle.plain_text.specs.Texts.{literals_text}
 use Rattle.formula.specs.Clauses.{Clause}
-use Rattle.formula.specs.Formulas.{numbered}
+use Rattle.formula.specs.declared.span.Span.{Span}
+use Rattle.formula.specs.Spans.{part}
+use Rattle.formula_text.specs.Texts.{clause_texts}
+use Rattle.std.specs.List.{flat_map}
 use Rattle.formula.specs.Laws.{clause_text}
 
 spaced_more : (w : List ℕ) (ws : List (List ℕ)) (v : List ℕ) → spaced (w ∷ (ws ++ v ∷ [])) ≡ w ++ 32 ∷ spaced (ws ++ v ∷ [])
@@ -25,8 +27,7 @@ clause_text_lem c =
     ap (λ (t : List ℕ). t ++ 10 ∷ []) (spaced_literals c (decimal 0) ∙ ap (λ (t : List ℕ). literals_text c ++ t) (decimal_digit 0 (omega arith))) ∙
     append_assoc (literals_text c) (48 ∷ []) (10 ∷ [])
 
--- the clause with the number k + 1 is the one at k
-pub numbered_at : (cs : List Clause) (k : ℕ) (c : Clause) → k < length cs → Some c ≡ numbered cs (k + 1) → c ≡ get_or cs k []
-numbered_at cs k c l e =
-    let n : numbered cs (k + 1) ≡ Some (get_or cs k []) = rw add-one (slice_get-get_or cs k [] l) in
-    cc
+-- the lines of the clauses that lie in a table
+pub clause_texts_parts : (ls : List ℤ) (ss : List Span) → clause_texts (map (λ s. part s ls) ss) ≡ flat_map (λ s. clause_text (part s ls)) ss
+clause_texts_parts ls [] = refl
+clause_texts_parts ls (s ∷ ss) = ap (λ t. clause_text (part s ls) ++ t) (clause_texts_parts ls ss)

@@ -1,49 +1,68 @@
 //! The counts and the clauses of a formula, as the program prints them.
-ghost use Rattle.std.specs.Prelude.{◌≡◌, ◌++◌, length, string_bytes, OnOk};
+ghost use Rattle.std.specs.Prelude.{Some, length};
 ghost use Rattle.formula.specs.Formulas.{variables_of, clauses_of};
 ghost use Rattle.formula.specs.Laws.{clause_text};
-ghost use Rattle.formula_text.specs.Texts.{clause_texts, summary, description};
+ghost use Rattle.formula_text.specs.Texts.{summary, clause_texts, description};
 
 use formula::formula::Formula;
-use plain_text::numbers::push_literals;
+use plain_text::numbers::Spaced;
 use std::fmt;
-use std::fmt::Write;
 
-// Writes the line of a clause behind the text.
-fn push_clause(out: &mut String, clause: &[i32]) -> fmt::Result
-    ensures { OnOk result (string_bytes out.new ≡ string_bytes out.old ++ clause_text clause.now) }
-{
-    push_literals(out, clause)?;
-    out.write_str("0\n")
-}
+/// The line of counts.
+#[derive(Clone, Copy)]
+pub struct Summary<'a, 'f>(pub &'a Formula<'f>);
 
-// Writes the lines of all clauses behind the text.
-fn push_clauses(out: &mut String, formula: &Formula) -> fmt::Result
-    ensures { OnOk result (string_bytes out.new ≡ string_bytes out.old ++ clause_texts (clauses_of formula.now)) }
-{
-    for k in 0..formula.count() {
-        let Some(clause) = formula.clause(k + 1) else {
-            return Err(fmt::Error);
-        };
-        push_clause(out, clause)?;
+impl fmt::Display for Summary<'_, '_> {
+    ghost output = { λ s. Some (summary (variables_of s.0.now) (length (clauses_of s.0.now))) };
+
+    fn fmt<W: fmt::Write>(&self, f: &mut fmt::Formatter<W>) -> fmt::Result {
+        let variables = self.0.variables();
+        let clauses = self.0.count();
+        writeln!(f, "formula variables={variables} clauses={clauses}")
     }
-    Ok(())
 }
 
-/// Writes the line of counts behind the text.
-pub fn summarize(out: &mut String, formula: &Formula) -> fmt::Result
-    ensures { OnOk result (string_bytes out.new ≡ string_bytes out.old ++ summary (variables_of formula.now) (length (clauses_of formula.now))) }
-{
-    let variables = formula.variables();
-    let clauses = formula.count();
-    writeln!(out, "formula variables={variables} clauses={clauses}")?;
-    Ok(())
+// The line of a clause.
+#[derive(Clone, Copy)]
+struct ClauseLine<'a>(&'a [i32]);
+
+impl fmt::Display for ClauseLine<'_> {
+    ghost output = { λ l. Some (clause_text l.0.now) };
+
+    #[tactic(auto, using(crate::proofs::ClauseTexts::clause_text_lem))]
+    fn fmt<W: fmt::Write>(&self, f: &mut fmt::Formatter<W>) -> fmt::Result {
+        let literals = Spaced(self.0);
+        writeln!(f, "{literals}0")
+    }
 }
 
-/// Writes what the formula is behind the text: the line of counts, then a line for each clause.
-pub fn describe(out: &mut String, formula: &Formula) -> fmt::Result
-    ensures { OnOk result (string_bytes out.new ≡ string_bytes out.old ++ description (variables_of formula.now) (clauses_of formula.now)) }
-{
-    summarize(out, formula)?;
-    push_clauses(out, formula)
+// A line for each clause.
+#[derive(Clone, Copy)]
+struct Clauses<'a, 'f>(&'a Formula<'f>);
+
+impl fmt::Display for Clauses<'_, '_> {
+    ghost output = { λ s. Some (clause_texts (clauses_of s.0.now)) };
+
+    fn fmt<W: fmt::Write>(&self, f: &mut fmt::Formatter<W>) -> fmt::Result {
+        let literals = self.0.literals();
+        for span in self.0.spans() {
+            let line = ClauseLine(span.of(literals));
+            write!(f, "{line}")?;
+        }
+        Ok(())
+    }
+}
+
+/// What a formula is: the line of counts, then a line for each clause.
+#[derive(Clone, Copy)]
+pub struct Description<'a, 'f>(pub &'a Formula<'f>);
+
+impl fmt::Display for Description<'_, '_> {
+    ghost output = { λ d. Some (description (variables_of d.0.now) (clauses_of d.0.now)) };
+
+    fn fmt<W: fmt::Write>(&self, f: &mut fmt::Formatter<W>) -> fmt::Result {
+        let summary = Summary(self.0);
+        let clauses = Clauses(self.0);
+        write!(f, "{summary}{clauses}")
+    }
 }
