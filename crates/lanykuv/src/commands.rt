@@ -1,11 +1,13 @@
 //! What the program does for each command.
 use crate::files;
-use crate::words::words;
 use answers::refusal::Refusal;
 use formula::formula::Formula;
-use formula_text::describe::{describe, summarize};
+use formula::span::Span;
+use formula_text::describe::{Description, Summary};
 use record_source::cursor::RecordSource;
+use source::marked::Marked;
 use source_text::list::list;
+use std::alloc::AllocError;
 use std::io::Write;
 use std::process::ExitCode;
 use text_source::cursor::TextSource;
@@ -15,7 +17,10 @@ const USAGE: &str =
 
 /// The files of the current folder.
 pub(crate) fn job(rt: &HostRuntime) -> anyhow::Result<ExitCode> {
-    show(rt, "f.cnf", false)
+    show(rt, "f.cnf", |formula| {
+        let summary = Summary(formula);
+        format!(in rt.alloc(); "{summary}")
+    })
 }
 
 /// A command that takes no file.
@@ -32,9 +37,18 @@ pub(crate) fn alone(rt: &HostRuntime, command: &str) -> anyhow::Result<ExitCode>
 /// A command that takes a file.
 pub(crate) fn with_file(rt: &HostRuntime, command: &str, file: &str) -> anyhow::Result<ExitCode> {
     match command {
-        "formula" => show(rt, file, true),
-        "items" => items(rt, file),
-        "records" => records(rt, file),
+        "formula" => show(rt, file, |formula| {
+            let description = Description(formula);
+            format!(in rt.alloc(); "{description}")
+        }),
+        "items" => {
+            let bytes = files::read(rt, file)?;
+            show_items(rt, &mut TextSource::new(bytes.as_slice()))
+        }
+        "records" => {
+            let bytes = files::read(rt, file)?;
+            show_items(rt, &mut RecordSource::new(bytes.as_slice()))
+        }
         _ => misused(rt),
     }
 }
@@ -45,43 +59,31 @@ pub(crate) fn misused(rt: &HostRuntime) -> anyhow::Result<ExitCode> {
     Ok(ExitCode::FAILURE)
 }
 
-// Reads a formula and prints its counts, and its clauses where `whole`.
-fn show(rt: &HostRuntime, path: &str, whole: bool) -> anyhow::Result<ExitCode> {
+// Reads a formula and prints what `text_of` says of it.
+fn show<F: FnOnce(&Formula) -> Result<String, AllocError>>(
+    rt: &HostRuntime,
+    path: &str,
+    text_of: F,
+) -> anyhow::Result<ExitCode>
+    requires { F.IsAlwaysCallable text_of }
+{
     let heap = rt.alloc();
     let bytes = files::read(rt, path)?;
-    let mut literals = files::literal_table(heap, bytes.as_slice())?;
-    let mut spans = files::span_table(heap, bytes.as_slice())?;
+    let mut literals = vec![in heap; 0i32; files::most_literals(bytes.as_slice())]?;
+    let mut spans = vec![in heap; Span::default(); files::most_clauses(bytes.as_slice())]?;
     let mut formula = Formula::over(literals.as_mut_slice(), spans.as_mut_slice());
-    match formula.read(bytes.as_slice()) {
-        Ok(()) => {}
-        Err(refusal) => return refuse(rt, path, refusal),
+    if let Err(refusal) = formula.read(bytes.as_slice()) {
+        return refuse(rt, path, refusal);
     }
-    let mut text = String::new(heap);
-    if whole {
-        describe(&mut text, &formula)?;
-    } else {
-        summarize(&mut text, &formula)?;
-    }
+    let text = text_of(&formula)?;
     rt.stdout().write_all(text.as_bytes())?;
     Ok(ExitCode::SUCCESS)
 }
 
-// Prints the items of a text, and its ending.
-fn items(rt: &HostRuntime, path: &str) -> anyhow::Result<ExitCode> {
-    let bytes = files::read(rt, path)?;
-    let mut source = TextSource::new(bytes.as_slice());
+// Prints the items of a source, and its ending.
+fn show_items<S: Marked>(rt: &HostRuntime, source: &mut S) -> anyhow::Result<ExitCode> {
     let mut text = String::new(rt.alloc());
-    list(&mut text, &mut source)?;
-    rt.stdout().write_all(text.as_bytes())?;
-    Ok(ExitCode::SUCCESS)
-}
-
-// Prints the items of a record file, and its ending.
-fn records(rt: &HostRuntime, path: &str) -> anyhow::Result<ExitCode> {
-    let bytes = files::read(rt, path)?;
-    let mut source = RecordSource::new(bytes.as_slice());
-    let mut text = String::new(rt.alloc());
-    list(&mut text, &mut source)?;
+    list(&mut text, source)?;
     rt.stdout().write_all(text.as_bytes())?;
     Ok(ExitCode::SUCCESS)
 }
@@ -90,7 +92,7 @@ fn records(rt: &HostRuntime, path: &str) -> anyhow::Result<ExitCode> {
 fn refuse(rt: &HostRuntime, path: &str, refusal: Refusal) -> anyhow::Result<ExitCode> {
     rt.println(refusal)?;
     let place = refusal.place;
-    let meaning = words(refusal.fault);
+    let meaning = refusal.fault;
     eprintln!(rt; "lanykuv: {path}, line {place}: {meaning}")?;
     Ok(ExitCode::FAILURE)
 }

@@ -1,9 +1,7 @@
 //! Files, and memory sized by them.
-ghost use Rattle.std.specs.Prelude.{◌≡◌, ◌+◌, ◌*◌, ◌/◌, min, length, IfOk, vec_len};
+ghost use Rattle.std.specs.Prelude.{◌≡◌, ◌+◌, ◌*◌, ◌/◌, min, length};
 
 use anyhow::anyhow;
-use formula::span::Span;
-use std::alloc::{AllocError, Global};
 use std::fs;
 
 /// The bytes of a file, or words that say why there are none.
@@ -17,18 +15,16 @@ pub(crate) fn read(rt: &HostRuntime, path: &str) -> anyhow::Result<Vec<u8>> {
     }
 }
 
-/// A table for every literal that the bytes can hold: each takes two bytes, and there are 64 to a clause.
-pub(crate) fn literal_table(heap: Global, bytes: &[u8]) -> Result<Vec<i32>, AllocError>
-    ensures { IfOk result (λ v. vec_len v ≡ min (length bytes.now / 2) (64 * 65536)) }
+/// The most literals that the bytes can hold: each takes two bytes, and there are 64 to a clause.
+pub(crate) fn most_literals(bytes: &[u8]) -> usize
+    ensures { result ≡ min (length bytes.now / 2) (64 * 65536) }
 {
-    let most = (bytes.len() / 2).min(64 * 65536);
-    vec![in heap; 0i32; most]
+    (bytes.len() / 2).min(64 * 65536)
 }
 
-/// A table for every clause that the bytes can hold: each takes two bytes.
-pub(crate) fn span_table(heap: Global, bytes: &[u8]) -> Result<Vec<Span>, AllocError>
-    ensures { IfOk result (λ v. vec_len v ≡ min (length bytes.now / 2 + 1) 65536) }
+/// The most clauses that the bytes can hold: each takes two bytes.
+pub(crate) fn most_clauses(bytes: &[u8]) -> usize
+    ensures { result ≡ min (length bytes.now / 2 + 1) 65536 }
 {
-    let most = (bytes.len() / 2 + 1).min(65536);
-    vec![in heap; Span { at: 0, len: 0 }; most]
+    (bytes.len() / 2 + 1).min(65536)
 }

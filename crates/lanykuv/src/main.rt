@@ -7,7 +7,6 @@ use std::process::ExitCode;
 
 mod commands;
 mod files;
-mod words;
 
 fn main(rt: HostRuntime) -> anyhow::Result<ExitCode> {
     let mut args = env::args(&rt)?;
