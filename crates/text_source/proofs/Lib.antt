@@ -1,5 +1,5 @@
 -- The lemmas that the proofs share.
 pub mod Collects
-pub mod Letters
 pub mod Readings
+pub mod Scans
 pub mod Texts

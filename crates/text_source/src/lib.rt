@@ -5,7 +5,5 @@
 #![tactic(auto)]
 
 pub mod cursor;
-mod line;
-mod lines;
+mod kept;
 mod parser;
-mod tokens;

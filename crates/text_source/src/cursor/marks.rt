@@ -2,8 +2,8 @@
 ghost use Rattle.text_source.specs.Lefts.{LeadsOn};
 
 use crate::cursor::TextSource;
-use crate::cursor::reads::read;
 use answers::refusal::Refusal;
+use source::body::{Body, check_space};
 use source::head::{Head, Mark};
 use source::marked::Marked;
 
@@ -11,7 +11,11 @@ impl Marked for TextSource<'_> {
     ghost leads = { LeadsOn };
 
     fn fetch(&self, literals: &mut [i32], hints: &mut [u32]) -> Result<(Head, Mark), Refusal> {
-        read(self, literals, hints)
+        check_space(literals, hints)?;
+        let mut body = Body::new();
+        let (head, mark) = self.next_line(&mut body)?;
+        body.write(head, literals, hints);
+        Ok((head, mark))
     }
 
     fn pass(&mut self, mark: Mark) {
