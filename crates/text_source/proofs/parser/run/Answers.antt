@@ -15,7 +15,7 @@ loop-token-preserved g c =
     let rest = c.in-Number.rest.now in
     let y : to_z w32 (of_z w32 z) ≡ z = omega (arith, ints) in
     let e : z ≡ to_z w32 0 → ⊥ = λ e. c.if-z-eq0.false (ap (of_z w32) e) in
-    let k : g.T.Kept.keep z ≡ Some x = ap g.T.Kept.keep (sym y) ∙ sym c.kept.ensures ∙ c.in_ok-x.ensures.ok_part in
+    let k : g.T.Kept.keep z ≡ Some x = sym (rw (y, c.in_ok-x.ensures.ok_part) at c.kept.ensures) in
     let was = c.in-Number.is in
     record {
       is = run_step g.T.Kept.keep (tokens_from c.args.first) c.loop-token.out n z x _ _ e k (omega (arith, i.few)) (told_tokens rest c.scan-token.result c.scan-token.ensures) (rw was at i.is);
