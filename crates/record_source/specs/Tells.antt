@@ -1,38 +1,62 @@
 -- What the functions that read bytes tell. Assumes nothing.
-use Rattle.std.specs.Prelude.{◌≡◌, ℕ, ◌≤◌, List, [], length, take, drop, ℤ, Ok, Err, Result}
+use Rattle.std.specs.Prelude.{◌≡◌, ℕ, ◌+◌, ◌*◌, true, List, [], ◌∷◌, length, drop, Ok, Err, Result}
+use Rattle.std.specs.Borrow.{Bor}
 use Rattle.answers.specs.declared.refusal.Refusal.{Refusal}
-use Rattle.source.specs.Items.{addition, deletion}
-use Rattle.source.specs.Looks.{ended}
+use Rattle.source.specs.Bodies.{item_in}
+use Rattle.source.specs.Looks.{ended, head_of}
+use Rattle.source.specs.declared.body.Body.{Body}
 use Rattle.source.specs.declared.head.Head.{Head}
-use Rattle.source.specs.declared.head.Head.TheVariants.{Addition as AdditionHead, Deletion as DeletionHead}
 use Rattle.source.specs.declared.head.Mark.{Mark}
 use Rattle.record_source.specs.declared.flaw.Flaw.{Flaw}
 use Rattle.record_source.specs.declared.found.Found.{Found}
-use Rattle.record_source.specs.declared.found.Found.TheVariants.{Addition, Deletion, Last}
+use Rattle.record_source.specs.declared.found.Found.TheVariants.{Item, Last}
+use Rattle.record_source.specs.declared.cursor.RecordSource.{RecordSource}
 use Rattle.record_source.specs.Fields.{Got, got, flawed}
-use Rattle.record_source.specs.Records.{Entry, line, last}
+use Rattle.record_source.specs.Records.{Entry, line, last, first_record}
 use Rattle.record_source.specs.Reading.{before}
-use Rattle.record_source.specs.Lefts.{left}
+use Rattle.record_source.specs.Lefts.{reached, left}
+use Rattle.record_source.specs.Cursors.{items_left, ending_left}
 
--- a field that ends at next
-abbrev pub Read : {A : Type 0} → Got A → List ℕ → ℕ → Result A Flaw → Type 0
-Read g bytes next (Ok x) = (g ≡ got x (drop next bytes)) × (next ≤ length bytes)
-Read g bytes next (Err w) = g ≡ flawed w
+-- a value, and what is left behind it
+abbrev pub Read : {A : Type 0} → Got A → Result (A × Bor (List ℕ)) Flaw → Type 0
+Read g (Ok p) = g ≡ got p.0 p.1.now
+Read g (Err w) = g ≡ flawed w
 
--- k fields from a position on, which are written to the front of out and end at next
-abbrev pub ReadRow : {A : Type 0} → Got (List A) → List ℕ → ℕ → ℕ → List A → Result ℕ Flaw → Type 0
-ReadRow g bytes from k out (Ok next) = (g ≡ got (take k out) (drop next bytes)) × (from ≤ next) × (next ≤ length bytes)
-ReadRow g bytes from k out (Err w) = g ≡ flawed w
+-- the number whose digits of base 256 these are, behind those that say n
+abbrev pub digits : ℕ → List ℕ → ℕ
+digits n [] = n
+digits n (b ∷ bs) = digits (n * 256 + b) bs
 
--- a record that ends at next, behind low; its literals and numbers are written to the fronts of two lists
-abbrev pub ReadRecord : Got Entry → List ℕ → ℕ → List ℤ → List ℕ → Result Found Flaw → Type 0
-ReadRecord g bytes low ls hs (Ok (Addition n l h next)) = (g ≡ got (line (addition n (take l ls) (take h hs))) (drop next bytes)) × (l ≤ 64) × (h ≤ 256) × (low ≤ next) × (next ≤ length bytes)
-ReadRecord g bytes low ls hs (Ok (Deletion h next)) = (g ≡ got (line (deletion (take h hs))) (drop next bytes)) × (h ≤ 256) × (low ≤ next) × (next ≤ length bytes)
-ReadRecord g bytes low ls hs (Ok (Last n next)) = (g ≡ got (last n) (drop next bytes)) × (next ≤ length bytes)
-ReadRecord g bytes low ls hs (Err w) = g ≡ flawed w
+-- the k bytes of a number, and what is left behind them
+abbrev pub ReadDigits : ℕ → Got ℕ → Result (Bor (List ℕ) × Bor (List ℕ)) Flaw → Type 0
+ReadDigits k g (Ok p) = (g ≡ got (digits 0 p.0.now) p.1.now) × (length p.0.now ≡ k)
+ReadDigits k g (Err w) = g ≡ flawed w
+
+-- fields in a row, which fill out, and what is left behind them
+abbrev pub ReadRow : {A : Type 0} → Got (List A) → List A → Result (Bor (List ℕ)) Flaw → Type 0
+ReadRow g out (Ok rest) = g ≡ got out rest.now
+ReadRow g out (Err w) = g ≡ flawed w
+
+-- a record at a place, whose literals and numbers are written to a body, and what is left behind it
+abbrev pub Finds : Got Entry → ℕ → Body → Found × Bor (List ℕ) → Type 0
+Finds g place b (Item h, rest) = (g ≡ got (line (item_in h b)) rest.now) × (h ≡ head_of (item_in h b) place)
+Finds g place b (Last n, rest) = g ≡ got (last n) rest.now
+
+-- such a record, or what is wrong there
+abbrev pub ReadRecord : Got Entry → ℕ → Body → Result (Found × Bor (List ℕ)) Flaw → Type 0
+ReadRecord g place b (Ok p) = Finds g place b p
+ReadRecord g place b (Err w) = g ≡ flawed w
+
+-- no item is left at a cursor, and the ending is answered
+abbrev pub Closes : RecordSource → Refusal → Type 0
+Closes s e = (items_left s ≡ []) × (e ≡ ended (ending_left s))
+
+-- the record that stands at a cursor, or the ending
+abbrev pub Stands : RecordSource → Body → Result (Found × Bor (List ℕ)) Refusal → Type 0
+Stands s b (Ok p) = (reached s.bytes.now s.at s.records s.additions ≡ true) × Finds (first_record (drop s.at s.bytes.now)) (s.records + 1) b p
+Stands s b (Err e) = Closes s e
 
 -- the first item left at a cursor and a mark behind it, or the ending
-abbrev pub Nexts : List ℕ → ℕ → ℕ → ℕ → List ℤ → List ℕ → Result (Head × Mark) Refusal → Type 0
-Nexts bytes at records additions ls hs (Ok (AdditionHead n l h place, m)) = (left bytes at records additions ≡ before (addition n (take l ls) (take h hs)) place (left bytes m.at m.place m.additions)) × (l ≤ 64) × (h ≤ 256)
-Nexts bytes at records additions ls hs (Ok (DeletionHead h place, m)) = (left bytes at records additions ≡ before (deletion (take h hs)) place (left bytes m.at m.place m.additions)) × (h ≤ 256)
-Nexts bytes at records additions ls hs (Err e) = ((left bytes at records additions).items ≡ []) × (e ≡ ended (left bytes at records additions).ending)
+abbrev pub Nexts : RecordSource → Body → Result (Head × Mark) Refusal → Type 0
+Nexts s b (Ok (h, m)) = (left s.bytes.now s.at s.records s.additions ≡ before (item_in h b) (s.records + 1) (left s.bytes.now m.at m.place m.additions)) × (h ≡ head_of (item_in h b) (s.records + 1))
+Nexts s b (Err e) = Closes s e

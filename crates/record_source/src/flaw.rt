@@ -15,13 +15,12 @@ pub(crate) enum Flaw {
     Count,
 }
 
-impl Flaw {
-    pub(crate) fn fault(self) -> Fault
-        ensures { result ≡ fault_of self }
-    {
-        match self {
-            Flaw::Cut => Fault::Record,
-            Flaw::Wrong => Fault::Record,
+impl From<Flaw> for Fault {
+    ghost from_gives = { λ flaw fault. fault ≡ fault_of flaw };
+
+    fn from(flaw: Flaw) -> Fault {
+        match flaw {
+            Flaw::Cut | Flaw::Wrong => Fault::Record,
             Flaw::Count => Fault::CountLimit,
         }
     }

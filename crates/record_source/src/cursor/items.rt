@@ -1,16 +1,19 @@
 //! A new source, and look and step on it.
-ghost use Rattle.std.specs.Prelude.{◌≡◌, ◌≤◌, length, take};
-ghost use Rattle.source.specs.Items.{onto};
+ghost use Rattle.std.specs.Prelude.{◌≡◌};
 ghost use Rattle.record_source.specs.Cursors.{items_left, ending_left};
 ghost use Rattle.record_source.specs.Keeps.{left_within, left_ends, left_few};
 ghost use Rattle.record_source.specs.Laws.{ReadsBack};
 ghost use Rattle.record_source.specs.Reading.{reading};
+ghost use Rattle.record_source.specs.Tells.{Stands, Nexts};
 
 use crate::cursor::RecordSource;
-use crate::records::next;
+use crate::found::Found;
+use crate::records::first;
 use answers::fault::Fault;
 use answers::refusal::Refusal;
-use source::head::Head;
+use source::body::Body;
+use source::head::{Head, Mark};
+use source::marked::Marked;
 use source::source::Source;
 
 impl<'a> RecordSource<'a> {
@@ -27,15 +30,47 @@ impl<'a> RecordSource<'a> {
             additions: 0,
         }
     }
-}
 
-// Writes the first n elements of `from` over the front of `to`.
-pub(crate) fn copy_front<T: Copy>(to: &mut [T], from: &[T], n: usize)
-    requires { (n ≤ length from.now) × (n ≤ length to.old) }
-    ensures { to.new ≡ onto (take n from.now) to.old }
-{
-    let front = &mut to[0..n];
-    front.copy_from_slice(&from[0..n]);
+    // The record at the cursor, with its numbers in the body, and what is left behind it; or the
+    // ending. No reading comes to a cursor with more records before it than bytes for them.
+    fn record(&self, body: &mut Body) -> Result<(Found, &[u8]), Refusal>
+        ensures { Stands self.now body.new result }
+    {
+        if self.at > self.bytes.len()
+            || self.records > self.at / 4
+            || self.additions > self.records
+        {
+            return Err(Refusal::at(Fault::NoItem, 0));
+        }
+        let place = self.records + 1;
+        first(&self.bytes[self.at..], place, body).map_err(|flaw| Refusal::at(flaw.into(), place))
+    }
+
+    // The first item's head, with its numbers in the body, and a mark behind it; or the ending.
+    pub(crate) fn next(&self, body: &mut Body) -> Result<(Head, Mark), Refusal>
+        ensures { Nexts self.now body.new result }
+    {
+        let (found, rest) = self.record(body)?;
+        let place = self.records + 1;
+        match found {
+            Found::Item(head) => {
+                let is_addition = matches!(head, Head::Addition(..));
+                let mark = Mark {
+                    at: self.bytes.len() - rest.len(),
+                    place,
+                    additions: self.additions + usize::from(is_addition),
+                };
+                Ok((head, mark))
+            }
+            Found::Last(n) => Err(if n as usize != self.additions {
+                Refusal::at(Fault::Record, place)
+            } else if rest.is_empty() {
+                Refusal::at(Fault::NoItem, 0)
+            } else {
+                Refusal::at(Fault::Record, place + 1)
+            }),
+        }
+    }
 }
 
 impl Source for RecordSource<'_> {
@@ -50,52 +85,13 @@ impl Source for RecordSource<'_> {
     ghost few = { λ s. left_few s.bytes.now s.at s.records s.additions };
 
     fn look(&self, literals: &mut [i32], hints: &mut [u32]) -> Result<Head, Refusal> {
-        if literals.len() < 64 || hints.len() < 256 {
-            return Err(Refusal::at(Fault::ShortBuffer, 0));
-        }
-        let mut ls = [0i32; 64];
-        let mut hs = [0u32; 256];
-        match next(
-            self.bytes,
-            self.at,
-            self.records,
-            self.additions,
-            &mut ls,
-            &mut hs,
-        ) {
-            Err(e) => Err(e),
-            Ok((head, _)) => match head {
-                Head::Addition(n, l, h, place) => {
-                    copy_front(literals, &ls, l);
-                    copy_front(hints, &hs, h);
-                    Ok(Head::Addition(n, l, h, place))
-                }
-                Head::Deletion(h, place) => {
-                    copy_front(hints, &hs, h);
-                    Ok(Head::Deletion(h, place))
-                }
-            },
-        }
+        let (head, _) = self.fetch(literals, hints)?;
+        Ok(head)
     }
 
     fn step(&mut self) -> Result<(), Refusal> {
-        let mut ls = [0i32; 64];
-        let mut hs = [0u32; 256];
-        match next(
-            self.bytes,
-            self.at,
-            self.records,
-            self.additions,
-            &mut ls,
-            &mut hs,
-        ) {
-            Err(e) => Err(e),
-            Ok((_, mark)) => {
-                self.at = mark.at;
-                self.records = mark.place;
-                self.additions = mark.additions;
-                Ok(())
-            }
-        }
+        let (_, mark) = self.next(&mut Body::new())?;
+        self.pass(mark);
+        Ok(())
     }
 }

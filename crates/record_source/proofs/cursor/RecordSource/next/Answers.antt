@@ -1,0 +1,55 @@
+-- What is left behind the item that was found, or at the last record.
+use Rattle.std.proofs.Common.{◌≡◌, ◌+◌, ◌-◌, ◌^◌, ◌<◌, length, subst, drop, ap, ◌∙◌, arith, rules}
+use Rattle.source.specs.Bodies.{item_in}
+use Rattle.source.specs.Looks.{ended}
+use Rattle.record_source.specs.Lefts.{left}
+use Rattle.record_source.specs.Records.{first_record, line}
+use Rattle.record_source.specs.Reading.{before, counted, closing}
+use Rattle.record_source.specs.Tells.{Finds}
+use Rattle.record_source.proofs.Places.{where_left, left_line, counted_other, last_closes}
+use Rattle.record_source.proofs.cursor.RecordSource.next.Goals as goal
+use Rattle.record_source.proofs.cursor.RecordSource.next.Goals.{in-Addition, in_default}
+
+pub overflow_sub-mark : goal.overflow_sub-mark
+overflow_sub-mark c =
+    let s = c.args.self.now in
+    let small : length s.bytes.now < 2 ^ 64 = omega arith in
+    let h = subst (λ f. Finds (first_record (drop s.at s.bytes.now)) (s.records + 1) c.record.new.body (f, c.in_ok-found.rest)) c.in-Item.is c.in_ok-found.ensures.1 in
+    let l = (where_left s.bytes.now s.at s.records s.additions small c.in_ok-found.ensures.0 (line (item_in c.in-Item.head c.record.new.body)) c.in_ok-found.rest.now h.0).1 in
+    omega arith
+
+pub returns-after-matches : goal.returns-after-matches
+returns-after-matches c =
+    let s = c.args.self.now in
+    let b = c.record.new.body in
+    let x = item_in c.in-Item.head b in
+    let r = c.in_ok-found.rest.now in
+    let small : length s.bytes.now < 2 ^ 64 = omega arith in
+    let h = subst (λ f. Finds (first_record (drop s.at s.bytes.now)) (s.records + 1) b (f, c.in_ok-found.rest)) c.in-Item.is c.in_ok-found.ensures.1 in
+    let more : counted x s.additions ≡ s.additions + c.from.result =
+    elim c.match-matches.branch [
+      | in-Addition w ↦ ap (λ y. counted (item_in y b) s.additions) w.in-Addition.is ∙ ap (λ n. s.additions + n) (let m = w.matches-is in let f = c.from.ensures in cc)
+      | in_default w ↦ counted_other c.in-Item.head b s.additions w.in_default.not-Addition ∙ (let m = w.matches-is in let f = c.from.ensures in let none : c.from.result ≡ 0 = cc in omega arith)
+    ] in (
+      subst (λ n. left s.bytes.now s.at s.records s.additions ≡ before x (s.records + 1) (left s.bytes.now (length s.bytes.now - length r) (s.records + 1) n)) more
+          (left_line s.bytes.now s.at s.records s.additions small c.in_ok-found.ensures.0 x r h.0),
+      h.1,
+    )
+
+pub returns-then-is_empty : goal.returns-then-is_empty
+returns-then-is_empty c =
+    let s = c.args.self.now in
+    let r = c.in_ok-found.rest.now in
+    let small : length s.bytes.now < 2 ^ 64 = omega arith in
+    let h = subst (λ f. Finds (first_record (drop s.at s.bytes.now)) (s.records + 1) c.record.new.body (f, c.in_ok-found.rest)) c.in-Last.is c.in_ok-found.ensures.1 in
+    let e : c.at-then-is_empty.result ≡ ended (closing c.in-Last.n s.additions (s.records + 1) (length r)).ending = search rules in
+    last_closes s c.in-Last.n r c.at-then-is_empty.result small c.in_ok-found.ensures.0 h e
+
+pub returns-else-is_empty : goal.returns-else-is_empty
+returns-else-is_empty c =
+    let s = c.args.self.now in
+    let r = c.in_ok-found.rest.now in
+    let small : length s.bytes.now < 2 ^ 64 = omega arith in
+    let h = subst (λ f. Finds (first_record (drop s.at s.bytes.now)) (s.records + 1) c.record.new.body (f, c.in_ok-found.rest)) c.in-Last.is c.in_ok-found.ensures.1 in
+    let e : c.at-else-is_empty.result ≡ ended (closing c.in-Last.n s.additions (s.records + 1) (length r)).ending = search rules in
+    last_closes s c.in-Last.n r c.at-else-is_empty.result small c.in_ok-found.ensures.0 h e
