@@ -2,7 +2,6 @@
 use Rattle.std.proofs.Common.{◌≡◌, ℕ, zero, suc, ◌+◌, ◌-◌, ◌*◌, ◌<◌, ◌≤◌, List, [], ◌∷◌, ◌++◌, length, take, drop, set, sym, refl, ap, ◌∙◌, append_assoc, arith}
 use Rattle.std.proofs.lemmas.List.{take_more_set}
 use Rattle.std.specs.Int.{w16, w32, from_be_bytes}
-use Rattle.record_source.specs.declared.flaw.Flaw.{Flaw}
 use Rattle.record_source.specs.declared.flaw.Flaw.TheVariants.{Cut}
 use Rattle.record_source.specs.Fields.{Got, got, flawed, then, field_from, field, in_row}
 use Rattle.record_source.specs.Tells.{digits}
@@ -42,10 +41,6 @@ abbrev pub prefixed : {A : Type 0} → List A → Got (List A) → Got (List A)
 prefixed xs (got ys r) = got (xs ++ ys) r
 prefixed xs (flawed w) = flawed w
 
-pub prefixed_none : {A : Type 0} (g : Got (List A)) → g ≡ prefixed [] g
-prefixed_none (got ys r) = refl
-prefixed_none (flawed w) = refl
-
 prefixed_more : {A : Type 0} (xs : List A) (x : A) (g : Got (List A)) → prefixed xs (then g (λ ys s. got (x ∷ ys) s)) ≡ prefixed (xs ++ x ∷ []) g
 prefixed_more xs x (got ys r) = ap (λ l. got l r) (sym (append_assoc xs (x ∷ []) ys))
 prefixed_more xs x (flawed w) = refl
@@ -62,8 +57,3 @@ module _ {A : Type 0} (one : List ℕ → Got A) (k i : ℕ) (rest : List ℕ) (
       ∙ ap (λ g. prefixed (take i out) (then g (λ x r. then (in_row one (k - (i + 1)) r) (λ xs s. got (x ∷ xs) s)))) e
       ∙ prefixed_more (take i out) x (in_row one (k - (i + 1)) behind)
       ∙ ap (λ xs. prefixed xs (in_row one (k - (i + 1)) behind)) (sym (take_more_set out i x (omega arith)))
-
-  pub row_flawed : (w : Flaw) → one rest ≡ flawed w → whole ≡ prefixed (take i out) (in_row one (k - i) rest) → whole ≡ flawed w
-  row_flawed w e u =
-      u ∙ ap (λ m. prefixed (take i out) (in_row one m rest)) (sym left)
-      ∙ ap (λ g. prefixed (take i out) (then g (λ x r. then (in_row one (k - (i + 1)) r) (λ xs s. got (x ∷ xs) s)))) e

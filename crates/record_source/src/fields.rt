@@ -104,9 +104,7 @@ pub(crate) fn row<'a, F: Field>(rest: &'a [u8], out: &mut [F]) -> Result<&'a [u8
     let mut rest = rest;
     // by index: what a loop over `iter_mut` writes, no proof knows
     for i in 0..out.len() {
-        let (x, behind) = F::read(rest)?;
-        out[i] = x;
-        rest = behind;
+        (out[i], rest) = F::read(rest)?;
     }
     Ok(rest)
 }

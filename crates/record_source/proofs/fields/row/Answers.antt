@@ -7,4 +7,4 @@ pub loop-i-preserved : goal.loop-i-preserved
 loop-i-preserved g c =
     let h : c.loop-i.i < length c.args.out.now = omega arith in
     let s : length c.args.out.now ≤ length c.loop-i.out = omega (arith, c.loop-i.auto.out) in
-    row_more g.F.Field.rule (length c.args.out.now) c.loop-i.i c.loop-i.rest.now c.loop-i.out _ h c.in_ok-x.x c.in_ok-x.behind.now s c.in_ok-x.ensures c.loop-i.invariant
+    row_more g.F.Field.rule (length c.args.out.now) c.loop-i.i c.loop-i.rest.now c.loop-i.out _ h c.in_ok-out.field-0-0 c.in_ok-out.field-0-1.now s c.in_ok-out.ensures c.loop-i.invariant

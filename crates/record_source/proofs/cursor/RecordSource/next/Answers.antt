@@ -1,20 +1,27 @@
 -- What is left behind the item that was found, or at the last record.
-use Rattle.std.proofs.Common.{◌≡◌, ◌+◌, ◌-◌, ◌^◌, ◌<◌, length, subst, drop, ap, ◌∙◌, arith, rules}
+use Rattle.std.proofs.Common.{◌≡◌, ◌+◌, ◌-◌, ◌^◌, ◌<◌, length, subst, drop, ap, ◌∙◌, arith, rules, ℕ, List, Bor, Ok}
 use Rattle.source.specs.Bodies.{item_in}
 use Rattle.source.specs.Looks.{ended}
+use Rattle.source.specs.declared.body.Body.{Body}
+use Rattle.record_source.specs.declared.cursor.RecordSource.{RecordSource}
+use Rattle.record_source.specs.declared.found.Found.{Found}
 use Rattle.record_source.specs.Lefts.{left}
 use Rattle.record_source.specs.Records.{first_record, line}
 use Rattle.record_source.specs.Reading.{before, counted, closing}
-use Rattle.record_source.specs.Tells.{Finds}
+use Rattle.record_source.specs.Tells.{Finds, Stands}
 use Rattle.record_source.proofs.Places.{where_left, left_line, counted_other, last_closes}
 use Rattle.record_source.proofs.cursor.RecordSource.next.Goals as goal
 use Rattle.record_source.proofs.cursor.RecordSource.next.Goals.{in-Addition, in_default}
+
+-- what is told of the record, once it is known which
+found : (s : RecordSource) (b : Body) (r : Bor (List ℕ)) (f k : Found) → f ≡ k → Stands s b (Ok (f, r)) → Finds (first_record (drop s.at s.bytes.now)) (s.records + 1) b (k, r)
+found s b r f k e h = subst (λ x. Finds (first_record (drop s.at s.bytes.now)) (s.records + 1) b (x, r)) e h.1
 
 pub overflow_sub-mark : goal.overflow_sub-mark
 overflow_sub-mark c =
     let s = c.args.self.now in
     let small : length s.bytes.now < 2 ^ 64 = omega arith in
-    let h = subst (λ f. Finds (first_record (drop s.at s.bytes.now)) (s.records + 1) c.record.new.body (f, c.in_ok-found.rest)) c.in-Item.is c.in_ok-found.ensures.1 in
+    let h = found s c.record.new.body c.in_ok-found.rest _ _ c.in-Item.is c.in_ok-found.ensures in
     let l = (where_left s.bytes.now s.at s.records s.additions small c.in_ok-found.ensures.0 (line (item_in c.in-Item.head c.record.new.body)) c.in_ok-found.rest.now h.0).1 in
     omega arith
 
@@ -25,7 +32,7 @@ returns-after-matches c =
     let x = item_in c.in-Item.head b in
     let r = c.in_ok-found.rest.now in
     let small : length s.bytes.now < 2 ^ 64 = omega arith in
-    let h = subst (λ f. Finds (first_record (drop s.at s.bytes.now)) (s.records + 1) b (f, c.in_ok-found.rest)) c.in-Item.is c.in_ok-found.ensures.1 in
+    let h = found s b c.in_ok-found.rest _ _ c.in-Item.is c.in_ok-found.ensures in
     let more : counted x s.additions ≡ s.additions + c.from.result =
     elim c.match-matches.branch [
       | in-Addition w ↦ ap (λ y. counted (item_in y b) s.additions) w.in-Addition.is ∙ ap (λ n. s.additions + n) (let m = w.matches-is in let f = c.from.ensures in cc)
@@ -41,7 +48,7 @@ returns-then-is_empty c =
     let s = c.args.self.now in
     let r = c.in_ok-found.rest.now in
     let small : length s.bytes.now < 2 ^ 64 = omega arith in
-    let h = subst (λ f. Finds (first_record (drop s.at s.bytes.now)) (s.records + 1) c.record.new.body (f, c.in_ok-found.rest)) c.in-Last.is c.in_ok-found.ensures.1 in
+    let h = found s c.record.new.body c.in_ok-found.rest _ _ c.in-Last.is c.in_ok-found.ensures in
     let e : c.at-then-is_empty.result ≡ ended (closing c.in-Last.n s.additions (s.records + 1) (length r)).ending = search rules in
     last_closes s c.in-Last.n r c.at-then-is_empty.result small c.in_ok-found.ensures.0 h e
 
@@ -50,6 +57,6 @@ returns-else-is_empty c =
     let s = c.args.self.now in
     let r = c.in_ok-found.rest.now in
     let small : length s.bytes.now < 2 ^ 64 = omega arith in
-    let h = subst (λ f. Finds (first_record (drop s.at s.bytes.now)) (s.records + 1) c.record.new.body (f, c.in_ok-found.rest)) c.in-Last.is c.in_ok-found.ensures.1 in
+    let h = found s c.record.new.body c.in_ok-found.rest _ _ c.in-Last.is c.in_ok-found.ensures in
     let e : c.at-else-is_empty.result ≡ ended (closing c.in-Last.n s.additions (s.records + 1) (length r)).ending = search rules in
     last_closes s c.in-Last.n r c.at-else-is_empty.result small c.in_ok-found.ensures.0 h e
