@@ -1,13 +1,13 @@
 -- What lines take of the tables. Assumes nothing.
-use Rattle.std.proofs.Common.{◌≡◌, ℕ, suc, List, [], ◌∷◌, map, length, ℤ, sum_by, refl, ◌∙◌, arith}
+use Rattle.std.proofs.Common.{◌≡◌, ℕ, suc, ◌+◌, ◌&&◌, leb, List, [], ◌∷◌, map, length, ℤ, sum_by, refl, ◌∙◌, arith}
 use Rattle.std.proofs.lemmas.List.{length-map}
 use Rattle.std.proofs.lemmas.List.Sums.{sum_by-cons}
-use Rattle.tables.specs.Filled.{filled}
+use Rattle.tables.specs.Filled.{filled, capacity_of}
 use Rattle.lines.specs.declared.entry.Row.{Row}
 use Rattle.lines.specs.declared.lines.Lines.{Lines}
-use Rattle.lines.specs.Held.{Line, all_of, literal_count, hint_count}
+use Rattle.lines.specs.Held.{Line, all_of, literal_count, hint_count, space_for}
 use Rattle.lines.specs.Rows.{row_of, rows_of, held_of, Within}
-use Rattle.lines.specs.Tables.{held_in}
+use Rattle.lines.specs.Tables.{held_in, sizes_of}
 use Rattle.lines.proofs.Indexes.{index}
 use Rattle.lines.proofs.Pushes.{part_length}
 
@@ -39,3 +39,11 @@ module _ (t : Lines) where
 
   pub lines_held : length (all_of (held_in t)) ≡ length (filled t.entries)
   lines_held = length-map (held_in t) _ ∙ length-map (rows_of t.entries) _ ∙ length-map (filled t.entries) row_of
+
+  -- there is space where each table has it
+  pub space_left : (a b : ℕ) → space_for (sizes_of t) (all_of (held_in t)) a b ≡ (leb (length (filled t.entries) + 1) (capacity_of t.entries) && (leb (length (filled t.literals) + a) (capacity_of t.literals) && leb (length (filled t.hints) + b) (capacity_of t.hints)))
+  space_left a b =
+      let e = lines_held in
+      let l = literals_held in
+      let h = hints_held in
+      cc

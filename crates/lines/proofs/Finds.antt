@@ -12,35 +12,21 @@ Names h r = (r.alive && eqb r.number h) ≡ true
 has_number : (h : ℕ) (r : Row) → Names h r → r.number ≡ h
 has_number h r n = eqb-true r.number h (and_parts r.alive (eqb r.number h) n).1
 
--- each line that h names is at or before t, which is in h's bucket if there is one
-abbrev pub Before : (ℕ → ℕ) → List Row → ℕ → ℕ → Type 0
-Before B rs h t = (j : ℕ) → j < length rs → Names h (at rs j) → (j ≤ t) × (B (at rs t).number ≡ B h)
+-- each line that h names is at or before t, which is before the limit and in h's bucket if there is one
+abbrev pub Before : (ℕ → ℕ) → List Row → ℕ → ℕ → ℕ → Type 0
+Before B rs h limit t = (j : ℕ) → j < length rs → Names h (at rs j) → (j ≤ t) × (t < limit) × (B (at rs t).number ≡ B h)
 
 module _ (B : ℕ → ℕ) (rs : List Row) (h : ℕ) where
-  pub from_head : (tops : List ℕ) → Headed B rs tops → Before B rs h (get_or tops (B h) 0)
-  from_head tops heads j q n =
-      let o = heads j q in
-      let b : B (at rs j).number ≡ B h = ap B (has_number h (at rs j) n) in
-      subst (λ (i : ℕ). (j ≤ get_or tops i 0) × (B (at rs (get_or tops i 0)).number ≡ i)) b (o.0, o.2)
+  pub from_head : (tops : List ℕ) → Headed B rs tops → Before B rs h (length rs) (get_or tops (B h) 0)
+  from_head tops heads j q n = subst (λ (i : ℕ). (j ≤ get_or tops i 0) × (get_or tops i 0 < length rs) × (B (at rs (get_or tops i 0)).number ≡ i)) (ap B (has_number h (at rs j) n)) (heads j q)
 
-  pub no_head : (tops : List ℕ) → Headed B rs tops → length rs ≤ get_or tops (B h) 0 → (j : ℕ) → j < length rs → Names h (at rs j) → ⊥
-  no_head tops heads far j q n =
-      let o = (heads j q).1 in
-      let b : get_or tops (B (at rs j).number) 0 ≡ get_or tops (B h) 0 = ap (λ (k : ℕ). get_or tops (B k) 0) (has_number h (at rs j) n) in
-      omega arith
+  pub on : (limit t : ℕ) → t < length rs → (Names h (at rs t) → ⊥) → Linked B rs → Before B rs h limit t → Before B rs h t (at rs t).link
+  on limit t low not linked before j q n =
+      let o = before j q n in
+      let a = o.0 in
+      let l : j < t = ⊎_elim (λ (z : j ≡ t). absurd (not (subst (λ (k : ℕ). Names h (at rs k)) z n))) (λ (z : j ≡ t → ⊥). omega arith) (cases_eq j t) in
+      let w = linked j t (l, low, ap B (has_number h (at rs j) n) ∙ sym o.2) in
+      (w.0, w.1, w.2 ∙ o.2)
 
-  module _ (t : ℕ) (low : t < length rs) (not : Names h (at rs t) → ⊥) (linked : Linked B rs) (before : Before B rs h t) where
-    further : (j : ℕ) → j < length rs → Names h (at rs j) → (j ≤ (at rs t).link) × ((at rs t).link < t) × (B (at rs (at rs t).link).number ≡ B h)
-    further j q n =
-        let o = before j q n in
-        let ne : j ≡ t → ⊥ = λ z. not (subst (λ (k : ℕ). Names h (at rs k)) z n) in
-        let a = o.0 in
-        let l : j < t = ⊎_elim (λ (z : j ≡ t). absurd (ne z)) (λ (z : j ≡ t → ⊥). omega arith) (cases_eq j t) in
-        let w = linked j t (l, low, ap B (has_number h (at rs j) n) ∙ sym o.1) in
-        (w.0, w.1, w.2 ∙ o.1)
-
-    pub on : Before B rs h (at rs t).link
-    on j q n = let f = further j q n in (f.0, f.2)
-
-    pub ends : t ≤ (at rs t).link → (j : ℕ) → j < length rs → Names h (at rs j) → ⊥
-    ends past j q n = let f = (further j q n).1 in omega arith
+  pub ends : (limit t : ℕ) → limit ≤ t → Before B rs h limit t → (j : ℕ) → j < length rs → Names h (at rs j) → ⊥
+  ends limit t past before j q n = let w = (before j q n).1 in omega arith

@@ -1,5 +1,5 @@
 -- What always holds of the tables has one proof at most, so it comes out of its brackets. Assumes nothing.
-use Rattle.std.proofs.Common.{◌≡◌, ℕ, List, [], length, ℤ, sym, refl, subst, arith}
+use Rattle.std.proofs.Common.{◌≡◌, ℕ, List, length, ℤ}
 use mathlib.Core.Logic.{∥∥₁_elim}
 use denote.Struct.Props.{props}
 use Rattle.tables.specs.Filled.{filled}
@@ -41,9 +41,3 @@ module _ (v o : ℕ) (ls : List ℤ) (hs : List ℕ) (rs : List Row) (tops : Lis
 
 pub index : (t : Lines) → Indexed (variables_of t.formula.now) (length (clauses_of t.formula.now)) (filled t.literals) (filled t.hints) (rows_of t.entries) (heads_of t.entries)
 index t = out (variables_of t.formula.now) (length (clauses_of t.formula.now)) (filled t.literals) (filled t.hints) (rows_of t.entries) (heads_of t.entries) t.indexed
-
--- tables with no line
-pub no_line : (v o : ℕ) (ls : List ℤ) (hs : List ℕ) (rs : List Row) (tops : List ℕ) → ls ≡ [] → hs ≡ [] → rs ≡ [] → ∥ Indexed v o ls hs rs tops ∥₁
-no_line v o ls hs rs tops p q r =
-    subst (λ (l : List ℤ). ∥ Indexed v o l hs rs tops ∥₁) (sym p) (subst (λ (l : List ℕ). ∥ Indexed v o [] l rs tops ∥₁) (sym q) (subst (λ (l : List Row). ∥ Indexed v o [] [] l tops ∥₁) (sym r)
-    ∣ record { literals = refl; hints = refl; within = λ k h. absurd (omega arith); ranged = λ k h. absurd (omega arith); headed = λ k h. absurd (omega arith); linked = λ j k h. absurd (let w = h.1 in omega arith) } ∣₁))

@@ -1,28 +1,18 @@
 -- Rows and heads in the slots of one table. Assumes nothing.
 use Rattle.std.proofs.Common.{◌≡◌, ℕ, zero, suc, ◌<◌, ◌≤◌, List, [], ◌∷◌, map, length, get_or, take, set, Some, None, sym, refl, ap, ◌∙◌, arith}
 use Rattle.std.specs.List.{slice_get}
-use Rattle.std.proofs.lemmas.List.{length-map, get_or-map, get_or_past, map-set, set-get_or}
+use Rattle.std.proofs.lemmas.Option.{gets, slice_get_within, slice_get_cases, get_or_from_slice_get}
+use Rattle.std.proofs.lemmas.List.{length-map, length-take, get_or-take, get_or-map, get_or_past, map-set, set-get_or}
 use Rattle.lines.specs.declared.entry.Row.{Row}
 use Rattle.lines.specs.declared.entry.Entry.{Entry}
 use Rattle.lines.specs.Rows.{at, no_row, no_entry, row_of, head_of}
 
-module _ (es fs : List Entry) (same : es ≡ fs) where
-  pub row_at : (t : ℕ) → t < length es → (get_or es t no_entry).row ≡ at (map row_of fs) t
-  row_at t low = sym (get_or-map row_of es t no_entry no_row low) ∙ ap (λ (l : List Entry). at (map row_of l) t) same
-
-  pub rows_length : length (map row_of fs) ≡ length es
-  rows_length = length-map fs _ ∙ ap length (sym same)
-
 -- what a slot holds
 pub slot_some : {X : Type 0} (d : X) (xs : List X) (i : ℕ) (x : X) → Some x ≡ slice_get xs i → (i < length xs) × (x ≡ get_or xs i d)
-slot_some d [] i x e = let z : ◌≡◌ {A = ℕ} 0 1 = cc in absurd (omega arith)
-slot_some d (y ∷ ys) zero x e = (omega arith, cc)
-slot_some d (y ∷ ys) (suc i) x e = let w = slot_some d ys i x e in let l = w.0 in (omega arith, w.1)
+slot_some d xs i x e = (slice_get_within xs i x (sym e), sym (get_or_from_slice_get xs i x d (sym e)))
 
 pub slot_none : {X : Type 0} (xs : List X) (i : ℕ) → None ≡ slice_get xs i → length xs ≤ i
-slot_none [] i e = omega arith
-slot_none (y ∷ ys) zero e = let z : ◌≡◌ {A = ℕ} 0 1 = cc in absurd (omega arith)
-slot_none (y ∷ ys) (suc i) e = let w = slot_none ys i e in omega arith
+slot_none xs i e = grind (arith, gets, slice_get_cases xs i)
 
 pub head_some : (xs : List Entry) (i : ℕ) (e : Entry) → Some e ≡ slice_get xs i → e.head ≡ get_or (map head_of xs) i 0
 head_some xs i e is =
@@ -56,7 +46,7 @@ entry_row es t e is =
 
 -- and so it is in the whole table
 pub entry_slot : (n : ℕ) (xs : List Entry) (t : ℕ) (e : Entry) → Some e ≡ slice_get (take n xs) t → (t < length xs) × (e ≡ get_or xs t no_entry)
-entry_slot zero xs t e is = let z : ◌≡◌ {A = ℕ} 0 1 = cc in absurd (omega arith)
-entry_slot (suc n) [] t e is = let z : ◌≡◌ {A = ℕ} 0 1 = cc in absurd (omega arith)
-entry_slot (suc n) (x ∷ xs) zero e is = (omega arith, cc)
-entry_slot (suc n) (x ∷ xs) (suc t) e is = let w = entry_slot n xs t e is in let l = w.0 in (omega arith, w.1)
+entry_slot n xs t e is =
+    let w = slot_some no_entry (take n xs) t e is in
+    let l = simp length-take at w.0 in
+    (omega arith, w.1 ∙ get_or-take n xs t no_entry (omega arith))

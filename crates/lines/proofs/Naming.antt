@@ -3,10 +3,13 @@ use Rattle.std.proofs.Common.{◌≡◌, ℕ, zero, suc, ◌<◌, ◌≤◌, Boo
 use Rattle.std.specs.Option.{option_map}
 use Rattle.std.proofs.lemmas.List.{length-map, get_or-map}
 use Rattle.std.proofs.lemmas.Bool.{cases_Bool, cond-true, cond-false, lt-leb}
+use Rattle.tables.specs.Filled.{filled}
 use Rattle.lines.specs.declared.entry.Row.{Row}
+use Rattle.lines.specs.declared.lines.Lines.{Lines}
 use Rattle.formula.specs.Clauses.{Clause}
 use Rattle.lines.specs.Held.{Line, Held, no_held, living, or_else, only_if, line_named, literals_of, clause_named, names, place_named}
-use Rattle.lines.specs.Rows.{at, no_row, held_of}
+use Rattle.lines.specs.Rows.{at, no_row, row_of, rows_of, held_of}
+use Rattle.lines.specs.Tables.{held_in}
 use Rattle.lines.proofs.Finds.{Names}
 
 pub place_none : (h : ℕ) (xs : List Held) → ((k : ℕ) → k < length xs → names h (get_or xs k no_held) ≡ true → ⊥) → place_named xs h ≡ None
@@ -46,7 +49,7 @@ module _ (ls : List ℤ) (hs : List ℕ) (rs : List Row) (h : ℕ) where
       (λ k r n. last k (short k r) (row_names k (short k r) n))
 
 -- a place that is named is one of the list
-pub place_within : (h : ℕ) (xs : List Held) (t : ℕ) → place_named xs h ≡ Some t → t < length xs
+place_within : (h : ℕ) (xs : List Held) (t : ℕ) → place_named xs h ≡ Some t → t < length xs
 place_within h [] t e = let z : ◌≡◌ {A = ℕ} 0 1 = cc in absurd (omega arith)
 place_within h (x ∷ xs) t e = step h x xs (place_named xs h) (place_within h xs) (names h x) refl t e
   where
@@ -54,6 +57,12 @@ place_within h (x ∷ xs) t e = step h x xs (place_named xs h) (place_within h x
     step h x xs (Some u) on b is t e = let w = on u is in let z : suc u ≡ t = cc in omega arith
     step h x xs None on true is t e = let z : ◌≡◌ {A = ℕ} 0 t = cc in omega arith
     step h x xs None on false is t e = let z : ◌≡◌ {A = ℕ} 0 1 = cc in absurd (omega arith)
+
+pub place_filled : (t : Lines) (h k : ℕ) → place_named (held_in t) h ≡ Some k → k < length (filled t.entries)
+place_filled t h k e =
+    let w = place_within h (held_in t) k e in
+    let n : length (held_in t) ≡ length (filled t.entries) = length-map (rows_of t.entries) _ ∙ length-map (filled t.entries) row_of in
+    omega arith
 
 -- a number names the same line among the living as by its place
 pub named_place : (xs : List Held) (h : ℕ) → line_named (living xs) h ≡ option_map (λ t. (get_or xs t no_held).line) (place_named xs h)

@@ -1,6 +1,7 @@
 -- Lines, which of them are alive, and the clause that a number names. Assumes nothing.
 use Rattle.std.specs.Prelude.{ℕ, suc, ◌+◌, Bool, true, false, cond, ◌&&◌, ◌||◌, List, [], ◌∷◌, map, length, ℤ, Some, None, sum_by, Option, ◌==◌, nat_le, nat_lt, slice_index_or, slice_set, unsigned_abs}
 use Rattle.std.specs.Option.{option_map}
+use Rattle.std.specs.List.{list_any}
 use Rattle.formula.specs.Clauses.{Clause}
 use Rattle.formula.specs.Formulas.{numbered}
 
@@ -87,5 +88,4 @@ abbrev pub strange : ℕ → ℤ → Bool
 strange v l = unsigned_abs l == 0 || nat_lt v (unsigned_abs l)
 
 abbrev pub outside : ℕ → Clause → Bool
-outside v [] = false
-outside v (l ∷ ls) = strange v l || outside v ls
+outside v ls = list_any (strange v) ls

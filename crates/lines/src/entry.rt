@@ -12,6 +12,8 @@ pub struct Row {
     pub link: usize,
 }
 
+// Links and heads are plain indices, with no Option: a lent slot holds anything before it is written.
+
 /// A line, and the last line of the bucket that has the slot's index. The heads of buckets stand in
 /// unfilled slots too.
 #[derive(Clone, Copy, PartialEq, Eq, Debug, Default)]

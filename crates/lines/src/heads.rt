@@ -10,10 +10,7 @@ use tables::fill::Fill;
 pub(crate) fn head_at(entries: &Fill<Entry>, i: usize) -> usize
     ensures { result ≡ slice_index (heads_of entries.now) i }
 {
-    match entries.slot(i) {
-        Some(e) => e.head,
-        None => 0,
-    }
+    entries.slot(i).map_or(0, |entry| entry.head)
 }
 
 // Writes the head in slot `i`, where there is such a slot, and leaves its row.
@@ -23,7 +20,7 @@ pub(crate) fn set_head(entries: &mut Fill<Entry>, i: usize, head: usize)
     ensures slots { map row_of (slots_of entries.new) ≡ map row_of (slots_of entries.old) }
     ensures lender { entries.new.slots.ghost_name ≡ entries.old.slots.ghost_name }
 {
-    if let Some(e) = entries.slot(i) {
-        let _ = entries.set_slot(i, Entry { row: e.row, head });
+    if let Some(entry) = entries.slot(i) {
+        let _ = entries.set_slot(i, Entry { head, ..entry });
     }
 }

@@ -6,18 +6,12 @@ ghost use Rattle.lines.specs.Held.{strange, outside};
 fn is_strange(variables: usize, literal: i32) -> bool
     ensures { result ≡ strange variables literal }
 {
-    let v = literal.unsigned_abs() as usize;
-    v == 0 || variables < v
+    !(1..=variables).contains(&(literal.unsigned_abs() as usize))
 }
 
 /// Whether some literal is of no variable from 1 to `variables`.
 pub fn is_outside(variables: usize, literals: &[i32]) -> bool
     ensures { result ≡ outside variables literals.now }
 {
-    for l in literals {
-        if is_strange(variables, *l) {
-            return true;
-        }
-    }
-    false
+    literals.iter().any(|l| is_strange(variables, *l))
 }

@@ -32,24 +32,19 @@ impl<'b, 'f, 't> Lines<'b, 'f, 't> {
     pub fn find(&self, number: u32) -> Option<usize>
         ensures { result ≡ place_named (held_in self.now) number }
     {
-        let entries = self.entries.as_slice();
-        if entries.len() == 0 {
+        let mut before = self.entries.as_slice();
+        if before.is_empty() {
             return None;
         }
         let b = bucket(self.formula.count(), self.entries.capacity(), number);
         let mut t = head_at(&self.entries, b);
-        if t >= entries.len() {
-            return None;
-        }
-        loop {
-            let row = entries[t].row;
-            if is_named(row, number) {
+        while let Some(entry) = before.get(t) {
+            if is_named(entry.row, number) {
                 return Some(t);
             }
-            if row.link >= t {
-                return None;
-            }
-            t = row.link;
+            before = &before[..t];
+            t = entry.row.link;
         }
+        None
     }
 }

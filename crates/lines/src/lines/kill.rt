@@ -16,16 +16,13 @@ impl<'b, 'f, 't> Lines<'b, 'f, 't> {
         let Some(t) = self.find(number) else {
             return false;
         };
-        let Some(e) = self.entries.get(t) else {
+        let Some(entry) = self.entries.get(t) else {
             return false;
         };
         let row = Row {
-            number: e.row.number,
             alive: false,
-            literals: e.row.literals,
-            hints: e.row.hints,
-            link: e.row.link,
+            ..entry.row
         };
-        self.entries.set(t, Entry { row, head: e.head })
+        self.entries.set(t, Entry { row, ..entry })
     }
 }

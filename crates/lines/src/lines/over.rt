@@ -60,18 +60,10 @@ impl<'b, 'f, 't> Lines<'b, 'f, 't> {
     }
 
     /// Whether there is space for one more line of so many literals and hints.
+    #[tactic(auto, using(crate::proofs::Counts::space_left))]
     pub fn has_space(&self, literals: usize, hints: usize) -> bool
         ensures { result ≡ space_for (sizes_of self.now) (all_of (held_in self.now)) literals hints }
     {
-        if self.entries.space() == 0 {
-            return false;
-        }
-        if literals > self.literals.space() {
-            return false;
-        }
-        if hints > self.hints.space() {
-            return false;
-        }
-        true
+        self.entries.space() > 0 && literals <= self.literals.space() && hints <= self.hints.space()
     }
 }

@@ -1,6 +1,6 @@
 //! One more line.
 ghost use Rattle.std.specs.Prelude.{◌≡◌, ◌+◌, ◌<◌, ◌≤◌, true, false, [], ◌∷◌, ◌++◌, map, length, slice_index, slice_set};
-ghost use Rattle.tables.specs.Filled.{filled, slots_of, capacity_of};
+ghost use Rattle.tables.specs.Filled.{filled, slots_of, capacity_of, over};
 ghost use Rattle.formula.specs.Spans.{Ranged};
 ghost use Rattle.lines.specs.Rows.{row_of, rows_of, heads_of};
 ghost use Rattle.lines.specs.Tables.{variables_in, line_of, storable, Stored, AfterStore};
@@ -13,6 +13,22 @@ use crate::lines::find::bucket;
 use crate::range::is_outside;
 use formula::span::Span;
 use tables::fill::Fill;
+
+// Puts elements behind the others, for which there is space: the run that they are.
+fn put<T: Copy>(table: &mut Fill<T>, xs: &[T]) -> Span
+    requires { length (filled table.old) + length xs.now ≤ capacity_of table.old }
+    ensures run { result ≡ record { at = length (filled table.old); len = length xs.now } }
+    ensures list { filled table.new ≡ filled table.old ++ xs.now }
+    ensures slots { slots_of table.new ≡ over (slots_of table.old) (length (filled table.old)) xs.now }
+    ensures lender { table.new.slots.ghost_name ≡ table.old.slots.ghost_name }
+{
+    let run = Span {
+        at: table.len(),
+        len: xs.len(),
+    };
+    let _ = table.extend(xs);
+    run
+}
 
 // Puts a line behind the others and at the head of bucket `b`; its link is the head before it.
 fn insert(entries: &mut Fill<Entry>, b: usize, number: u32, literals: Span, hints: Span)
@@ -44,30 +60,22 @@ impl<'b, 'f, 't> Lines<'b, 'f, 't> {
         requires entries { length (filled self.old.entries) < capacity_of self.old.entries }
         ensures { Stored self.old self.new (line_of line.entry) }
     {
-        let literals = Span {
-            at: self.literals.len(),
-            len: line.literals.len(),
-        };
-        let hints = Span {
-            at: self.hints.len(),
-            len: line.hints.len(),
-        };
         let b = bucket(self.formula.count(), self.entries.capacity(), line.number);
-        let _ = self.literals.extend(line.literals);
-        let _ = self.hints.extend(line.hints);
+        let literals = put(&mut self.literals, line.literals);
+        let hints = put(&mut self.hints, line.hints);
         insert(&mut self.entries, b, line.number, literals, hints);
     }
 
     /// Puts a line behind the others, alive; false, and nothing changed, where a literal is of none
     /// of the formula's variables, or where there is no space.
+    #[tactic(auto, using(crate::proofs::Counts::space_left, crate::proofs::Ranges::inside_ranged))]
     pub fn store(&mut self, line: Addition) -> bool
         ensures answer { result ≡ storable self.old (line_of line.entry) }
         ensures after { AfterStore result self.old self.new (line_of line.entry) }
     {
-        if is_outside(self.formula.variables(), line.literals) {
-            return false;
-        }
-        if !self.has_space(line.literals.len(), line.hints.len()) {
+        if is_outside(self.formula.variables(), line.literals)
+            || !self.has_space(line.literals.len(), line.hints.len())
+        {
             return false;
         }
         self.add(line);

@@ -1,51 +1,42 @@
-use Rattle.std.proofs.Common.{◌≡◌, ℕ, ◌+◌, ◌<◌, ◌≤◌, List, length, ℤ, Some, None, sym, ap, ◌∙◌, subst, arith}
-use Rattle.std.proofs.lemmas.List.{length-map}
+use Rattle.std.proofs.Common.{Some, None, sym, ap, ◌∙◌, subst, arith}
+use Rattle.std.specs.Option.{option_map}
+use Rattle.std.proofs.lemmas.Option.{slice_get-map, get_or_from_slice_get, none-some, slice_get-get_or}
 use Rattle.tables.specs.Filled.{filled}
 use Rattle.formula.specs.Spans.{part, Ranged}
 use Rattle.formula.proofs.SpanParts.{ranged_part}
-use Rattle.lines.specs.declared.entry.Row.{Row}
-use Rattle.lines.specs.Held.{Held}
-use Rattle.lines.specs.Rows.{at, row_of, rows_of}
+use Rattle.lines.specs.Held.{Held, no_held}
+use Rattle.lines.specs.Rows.{no_entry, row_of, rows_of, held_of}
 use Rattle.lines.specs.Tables.{clauses_in, variables_in, held_in}
 use Rattle.lines.proofs.Indexes.{index}
-use Rattle.lines.proofs.Inserts.{slot_none, entry_row}
-use Rattle.lines.proofs.Naming.{is_held, place_within, named_high}
+use Rattle.lines.proofs.Naming.{place_filled, named_high}
 use Rattle.lines.proofs.lines.Lines.clause.Goals as goal
 
-pub returns-in_default : goal.returns-in_default
-returns-in_default c =
+pub returns-in_err-find-clause-is : goal.returns-in_err-find-clause-is
+returns-in_err-find-clause-is c =
     let t = c.args.self.now in
-    let q : length (clauses_in t) < c.args.number = subst (λ (k : ℕ). k < c.args.number) c.count.ensures.is c.if-number-count.false in
-    record { is = sym (named_high (clauses_in t) (held_in t) c.args.number None q c.in_default.ensures); limits = tt }
+    let q = c.if-number-count.false in
+    ap (option_map (λ x. x.now)) c.from_residual.ensures ∙ sym (named_high (clauses_in t) (held_in t) c.args.number None (omega (arith, c.count.ensures.is)) (sym c.in_err-find.was ∙ c.find.ensures))
 
-pub returns-in_default-get : goal.returns-in_default-get
-returns-in_default-get c =
+pub returns-in_err-entry-clause-is : goal.returns-in_err-entry-clause-is
+returns-in_err-entry-clause-is c =
     let t = c.args.self.now in
-    let w = place_within c.args.number (held_in t) c.in-Some.t (sym c.in-Some.ensures) in
-    let n : length (held_in t) ≡ length (filled t.entries) = length-map (rows_of t.entries) _ ∙ length-map (filled t.entries) row_of in
-    let l = slot_none (filled t.entries) c.in-Some.t c.in_default-get.ensures in
-    absurd (omega arith)
+    let k = c.in_ok-find.field-0 in
+    let low = place_filled t c.args.number k (sym c.find.ensures ∙ c.in_ok-find.was) in
+    absurd (none-some _ (sym c.in_err-entry.was ∙ c.get.ensures ∙ slice_get-get_or (filled t.entries) k no_entry low))
 
-pub part_of-requires : goal.part_of-requires
-part_of-requires c =
+pub returns-clause-is : goal.returns-clause-is
+returns-clause-is c =
     let t = c.args.self.now in
-    let e = c.in-Some-get.entry in
-    let r = entry_row (filled t.entries) c.in-Some.t e c.in-Some-get.ensures in
-    let low : c.in-Some.t < length (rows_of t.entries) = subst (λ (k : ℕ). c.in-Some.t < k) (sym (length-map (filled t.entries) row_of)) r.0 in
-    let w = ((index t).within c.in-Some.t low).0 in
-    subst (λ (l : List ℤ). e.row.literals.at + e.row.literals.len ≤ length l) (sym c.as_slice.ensures) (subst (λ (x : Row). x.literals.at + x.literals.len ≤ length (filled t.literals)) (sym r.1) w)
+    let k = c.in_ok-find.field-0 in
+    let e = c.in_ok-entry.entry in
+    let q = c.if-number-count.false in
+    let held = held_of (filled t.literals) (filled t.hints) in
+    let g = slice_get-map held (rows_of t.entries) k ∙ ap (option_map held) (slice_get-map row_of (filled t.entries) k ∙ ap (option_map row_of) (sym c.get.ensures ∙ c.in_ok-entry.was)) in
+    ap Some (c.of.ensures ∙ ap (part e.row.literals) c.as_slice.ensures ∙ sym (ap (λ (x : Held). x.line.literals) (get_or_from_slice_get (held_in t) k (held e.row) no_held g)))
+    ∙ sym (named_high (clauses_in t) (held_in t) c.args.number (Some k) (omega (arith, c.count.ensures.is)) (sym c.in_ok-find.was ∙ c.find.ensures))
 
-pub returns : goal.returns
-returns c =
+pub returns-clause-limits : goal.returns-clause-limits
+returns-clause-limits c =
     let t = c.args.self.now in
-    let k = c.in-Some.t in
-    let e = c.in-Some-get.entry in
-    let r = entry_row (filled t.entries) k e c.in-Some-get.ensures in
-    let low : k < length (rows_of t.entries) = subst (λ (n : ℕ). k < n) (sym (length-map (filled t.entries) row_of)) r.0 in
-    let q : length (clauses_in t) < c.args.number = subst (λ (n : ℕ). n < c.args.number) c.count.ensures.is c.if-number-count.false in
-    let p = c.part_of.ensures ∙ ap (part e.row.literals) c.as_slice.ensures ∙ ap (λ (x : Row). part x.literals (filled t.literals)) r.1 in
-    let h = ap (λ (x : Held). x.line.literals) (is_held (filled t.literals) (filled t.hints) (rows_of t.entries) 0 k low) in
-    record {
-      is = ap Some (p ∙ sym h) ∙ sym (named_high (clauses_in t) (held_in t) c.args.number (Some k) q c.in-Some.ensures);
-      limits = subst (Ranged (variables_in t)) (sym p) (ranged_part (variables_in t) (filled t.literals) (at (rows_of t.entries) k).literals (index t).ranged);
-    }
+    let e = c.in_ok-entry.entry in
+    subst (Ranged (variables_in t)) (sym (c.of.ensures ∙ ap (part e.row.literals) c.as_slice.ensures)) (ranged_part (variables_in t) (filled t.literals) e.row.literals (index t).ranged)
