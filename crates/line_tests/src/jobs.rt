@@ -6,7 +6,7 @@ use lines::entry::{Entry, Row};
 use lines::lines::Lines;
 use rup::assignment::AssignmentBytes;
 use rup::check::check;
-use rup::verdict::Verdict;
+use rup::failure::Failure;
 
 /// The sample: five clauses over three variables, which nothing satisfies.
 pub(crate) const SAMPLE: &[u8] = b"p cnf 3 5\n1 2 0\n1 -2 0\n-1 3 0\n-1 -3 2 0\n-2 -3 0\n";
@@ -26,10 +26,10 @@ pub(crate) const ENTRY: Entry = Entry {
 };
 
 /// The number of the verdict, 0 for a line that follows, and the position of the hint.
-pub(crate) fn told(verdict: Verdict) -> (u8, usize) {
+pub(crate) fn told(verdict: Result<usize, Failure>) -> (u8, usize) {
     match verdict {
-        Verdict::Follows(hint) => (0, hint),
-        Verdict::Fails(fault, hint) => (fault.number(), hint),
+        Ok(hint) => (0, hint),
+        Err(failure) => (failure.fault.number(), failure.hint),
     }
 }
 

@@ -1,12 +1,11 @@
 -- A verdict depends only on the clauses that the hints name. Assumes nothing.
-use Rattle.std.proofs.Common.{◌≡◌, ℕ, ◌+◌, Bool, true, false, cond, ◌⊎◌, List, [], ◌∷◌, Some, None, Option, refl, ap, ◌∙◌, inl, inr, arith}
+use Rattle.std.proofs.Common.{◌≡◌, ℕ, ◌+◌, Bool, true, false, cond, ◌⊎◌, List, [], ◌∷◌, Some, None, Option, refl, ap, ◌∙◌, inl, inr, arith, Ok, Err}
 use Rattle.answers.specs.declared.fault.Fault.TheVariants.{LineVariableAbove, LineVariableTwice}
 use Rattle.formula.specs.Clauses.{Clause}
 use Rattle.formula.specs.Laws.{In}
 use Rattle.lines.specs.Held.{Line, outside}
-use Rattle.rup.specs.declared.verdict.Verdict.TheVariants.{Fails}
 use Rattle.rup.specs.Laws.{HintsKnown}
-use Rattle.rup.specs.Propagation.{Known, Gathered, found, unknown, gathered, gather, through}
+use Rattle.rup.specs.Propagation.{fails, Known, Gathered, gathered, gather, through}
 use Rattle.rup.specs.Verdicts.{twice, verdict}
 use Rattle.rup.proofs.Gathers.{first}
 
@@ -17,10 +16,10 @@ gather_same K J p (h ∷ hs) e =
     ∙ ap (gathered (K h) (p + 1)) (gather_same K J (p + 1) hs (λ k i. e k (inr i)))
 
 pub local : (v : ℕ) (K J : Known) (l : Line) → ((h : ℕ) → In h l.hints → J h ≡ K h) → verdict v J l ≡ verdict v K l
-local v K J l e = ap (λ (g : Gathered). cond (outside v l.literals) (Fails LineVariableAbove 0) (cond (twice l.literals) (Fails LineVariableTwice 0) (through l.literals g))) (gather_same K J 0 l.hints e)
+local v K J l e = ap (λ (g : Gathered). cond (outside v l.literals) (fails LineVariableAbove 0) (cond (twice l.literals) (fails LineVariableTwice 0) (through l.literals g))) (gather_same K J 0 l.hints e)
 
 -- clauses that were found are found again
-found_again : (K J : Known) (p : ℕ) (hs : List ℕ) (cs : List Clause) → gather K p hs ≡ found cs → ((h : ℕ) → In h hs → (K h ≡ None) ⊎ (J h ≡ K h)) → gather J p hs ≡ gather K p hs
+found_again : (K J : Known) (p : ℕ) (hs : List ℕ) (cs : List Clause) → gather K p hs ≡ Ok cs → ((h : ℕ) → In h hs → (K h ≡ None) ⊎ (J h ≡ K h)) → gather J p hs ≡ gather K p hs
 found_again K J p [] cs e m = refl
 found_again K J p (h ∷ hs) cs e m =
     let f = first K p h hs cs e in
@@ -36,8 +35,8 @@ found_again K J p (h ∷ hs) cs e m =
 pub more : (v : ℕ) (K J : Known) (l : Line) → ((h : ℕ) → In h l.hints → (K h ≡ None) ⊎ (J h ≡ K h)) → HintsKnown (verdict v K l) → verdict v J l ≡ verdict v K l
 more v K J l m k = go (outside v l.literals) (twice l.literals) (gather K 0 l.hints) refl k
   where
-    go : (b c : Bool) (g : Gathered) → gather K 0 l.hints ≡ g → HintsKnown (cond b (Fails LineVariableAbove 0) (cond c (Fails LineVariableTwice 0) (through l.literals g))) → cond b (Fails LineVariableAbove 0) (cond c (Fails LineVariableTwice 0) (through l.literals (gather J 0 l.hints))) ≡ cond b (Fails LineVariableAbove 0) (cond c (Fails LineVariableTwice 0) (through l.literals (gather K 0 l.hints)))
+    go : (b c : Bool) (g : Gathered) → gather K 0 l.hints ≡ g → HintsKnown (cond b (fails LineVariableAbove 0) (cond c (fails LineVariableTwice 0) (through l.literals g))) → cond b (fails LineVariableAbove 0) (cond c (fails LineVariableTwice 0) (through l.literals (gather J 0 l.hints))) ≡ cond b (fails LineVariableAbove 0) (cond c (fails LineVariableTwice 0) (through l.literals (gather K 0 l.hints)))
     go true c g e k = refl
     go false true g e k = refl
-    go false false (unknown p) e k = absurd (k refl)
-    go false false (found cs) e k = ap (through l.literals) (found_again K J 0 l.hints cs e m)
+    go false false (Err p) e k = absurd (k refl)
+    go false false (Ok cs) e k = ap (through l.literals) (found_again K J 0 l.hints cs e m)

@@ -1,7 +1,7 @@
 -- Bytes that show which literals are false. Assumes nothing.
-use Rattle.std.proofs.Common.{◌≡◌, ℕ, zero, suc, ◌+◌, ◌*◌, ◌<◌, ◌≤◌, Bool, true, false, cond, ◌&&◌, ◌||◌, eqb, leb, List, [], ◌∷◌, ◌++◌, length, get_or, take, drop, set, replicate, ℤ, pos, negsuc, neg_ℤ, sym, refl, ap, ◌∙◌, subst, ⊎_elim, arith}
-use Rattle.std.proofs.lemmas.List.{length-set, length-replicate, get_or-replicate, get_or-set_same, get_or-set_other, length-take-le, at_drop_more}
-use Rattle.std.proofs.lemmas.Bool.{cases_Bool, and_parts, and_from, and_left, and_right, leb-true, eqb-true, eqb-false, eq-eqb, ne_eqb}
+use Rattle.std.proofs.Common.{◌≡◌, ℕ, zero, suc, ◌*◌, ◌<◌, ◌≤◌, Bool, true, false, cond, ◌||◌, eqb, leb, List, [], ◌∷◌, ◌++◌, length, get_or, take, set, replicate, ℤ, pos, negsuc, neg_ℤ, sym, refl, ap, ◌∙◌, subst, ⊎_elim, arith}
+use Rattle.std.proofs.lemmas.List.{length-set, length-replicate, get_or-replicate, get_or-set_same, get_or-set_other, length-take-le}
+use Rattle.std.proofs.lemmas.Bool.{cases_Bool, and_parts, and_from, leb-true, eqb-true, eqb-false, eq-eqb}
 use Rattle.formula.specs.Clauses.{LiteralOf}
 use Rattle.rup.specs.Bytes.{byte_of, all_zero, clean, Shows}
 use Rattle.rup.specs.Propagation.{same, among}
@@ -17,10 +17,6 @@ opposite_of v (negsuc n) h = h
 
 ft : {X : Type 0} → ◌≡◌ {A = Bool} false true → X
 ft e = let z : ◌≡◌ {A = ℕ} 0 1 = cc in absurd (omega arith)
-
-pub same_itself : (l : ℤ) → same l l ≡ true
-same_itself (pos n) = eq-eqb n n refl
-same_itself (negsuc n) = eq-eqb n n refl
 
 pub same_equal : (l k : ℤ) → same l k ≡ true → l ≡ k
 same_equal (pos m) (pos n) e = ap pos (eqb-true m n e)
@@ -82,21 +78,9 @@ byte_set false n e z = absurd (z e)
 
 -- zero bytes
 
-pub zero_each : (bs : List ℕ) → all_zero bs ≡ true → (k : ℕ) → get_or bs k 0 ≡ 0
-zero_each [] e k = refl
-zero_each (b ∷ bs) e zero = eqb-true b 0 (and_parts (eqb b 0) (all_zero bs) e).0
-zero_each (b ∷ bs) e (suc k) = zero_each bs (and_parts (eqb b 0) (all_zero bs) e).1 k
-
 pub each_zero : (bs : List ℕ) → ((k : ℕ) → k < length bs → get_or bs k 0 ≡ 0) → all_zero bs ≡ true
 each_zero [] h = refl
 each_zero (b ∷ bs) h = and_from (eqb b 0) (all_zero bs) (eq-eqb b 0 (h 0 (omega arith))) (each_zero bs (λ k q. h (suc k) (omega arith)))
-
--- one byte more looked at
-pub zero_more : (z : Bool) (bs : List ℕ) (i : ℕ) → i < length bs → get_or bs i 0 ≡ 0 → (z && all_zero (drop i bs)) ≡ (z && all_zero (drop (i + 1) bs))
-zero_more z bs i l e = ap (λ (b : Bool). z && b) (at_drop_more all_zero bs i 0 l ∙ ap (λ (b : Bool). b && all_zero (drop (i + 1) bs)) (eq-eqb (get_or bs i 0) 0 e))
-
-pub zero_less : (z : Bool) (bs : List ℕ) (i : ℕ) → i < length bs → (get_or bs i 0 ≡ 0 → ⊥) → (z && all_zero (drop i bs)) ≡ false
-zero_less z bs i l e = and_right z (all_zero (drop i bs)) (at_drop_more all_zero bs i 0 l ∙ and_left (eqb (get_or bs i 0) 0) (all_zero (drop (i + 1) bs)) (ne_eqb (get_or bs i 0) 0 e))
 
 zeros : (bs : List ℕ) → all_zero bs ≡ true → bs ≡ replicate (length bs) 0
 zeros [] e = refl
@@ -105,9 +89,6 @@ zeros (b ∷ bs) e =
     let z = eqb-true b 0 p.0 in
     let r = zeros bs p.1 in
     cc
-
-pub clean_long : (v : ℕ) (bytes : List ℕ) → clean v bytes ≡ true → 2 * v ≤ length bytes
-clean_long v bytes e = leb-true (2 * v) (length bytes) (and_parts (leb (2 * v) (length bytes)) (all_zero (take (2 * v) bytes)) e).0
 
 pub clean_zeros : (v : ℕ) (bytes : List ℕ) → clean v bytes ≡ true → take (2 * v) bytes ≡ replicate (2 * v) 0
 clean_zeros v bytes e =

@@ -1,25 +1,19 @@
 -- What satisfies the clauses that hints name satisfies a line that follows by them. Assumes nothing.
-use Rattle.std.proofs.Common.{◌≡◌, ℕ, zero, suc, ◌+◌, Bool, true, false, cond, eqb, leb, List, [], ◌∷◌, length, ℤ, pos, negsuc, neg_ℤ, Some, None, Option, sym, refl, ap, ◌∙◌, subst, inl, inr, arith}
+use Rattle.std.proofs.Common.{◌≡◌, ℕ, zero, suc, ◌+◌, Bool, true, false, cond, eqb, leb, List, [], ◌∷◌, length, ℤ, pos, negsuc, neg_ℤ, Some, None, Option, sym, refl, ap, ◌∙◌, subst, inl, inr, arith, Ok, Err}
 use Rattle.std.specs.List.{slice_get}
 use Rattle.std.specs.Option.{option_map}
+use Rattle.std.specs.Result.{IsOk, is_ok}
 use Rattle.std.proofs.lemmas.Bool.{not-true, not_from_true, or_cases, or_parts, or_left, or_right, and_parts}
 use Rattle.answers.specs.declared.fault.Fault.TheVariants.{HintNotUnit, LineVariableAbove, LineVariableTwice}
 use Rattle.formula.specs.Clauses.{Clause, Assignment, holds, satisfies_clause, satisfies}
 use Rattle.formula.specs.Formulas.{numbered}
 use Rattle.formula.specs.Laws.{In}
 use Rattle.lines.specs.Held.{Line, or_else, only_if, line_named, literals_of, clause_named, outside}
-use Rattle.rup.specs.declared.verdict.Verdict.{Verdict}
-use Rattle.rup.specs.declared.verdict.Verdict.TheVariants.{Follows, Fails}
 use Rattle.rup.specs.Laws.{Satisfies}
-use Rattle.rup.specs.Propagation.{Known, Gathered, found, unknown, gather, among, left, by_left, walk, through, same}
+use Rattle.rup.specs.Propagation.{fails, Known, Gathered, gather, among, left, by_left, walk, through, same}
 use Rattle.rup.specs.Verdicts.{twice, verdict}
 use Rattle.rup.proofs.Gathers.{first}
 use Rattle.rup.proofs.Shown.{same_equal}
-
--- a verdict that a line follows
-abbrev IsFollows : Verdict → Type 0
-IsFollows (Follows h) = Unit {0}
-IsFollows (Fails f h) = ⊥
 
 ft : {X : Type 0} → ◌≡◌ {A = Bool} false true → X
 ft e = let z : ◌≡◌ {A = ℕ} 0 1 = cc in absurd (omega arith)
@@ -61,19 +55,19 @@ left_satisfied a falses (l ∷ ls) h e = go (left_satisfied a falses ls h) (amon
           | inr r ↦ or_right (holds a l) (satisfies_clause a (left falses ls)) (ih r)
         ]
 
-walk_sound : (a : Assignment) (cs : List Clause) (falses : List ℤ) (p : ℕ) → AllFalse a falses → AllSatisfied a cs → IsFollows (walk falses p cs) → ⊥
-walk_sound a [] falses p h s e = absurd e
+walk_sound : (a : Assignment) (cs : List Clause) (falses : List ℤ) (p : ℕ) → AllFalse a falses → AllSatisfied a cs → IsOk (walk falses p cs) → ⊥
+walk_sound a [] falses p h s e = ft e
 walk_sound a (c ∷ cs) falses p h s e =
     go (λ l t. walk_sound a cs (neg_ℤ l ∷ falses) (p + 1) (opposite_false a l t, h) s.1) (left falses c) (left_satisfied a falses c h s.0) e
   where
-    go : ((l : ℤ) → holds a l ≡ true → IsFollows (walk (neg_ℤ l ∷ falses) (p + 1) cs) → ⊥) → (u : Clause) → satisfies_clause a u ≡ true → IsFollows (by_left u (Follows (p + 1)) (λ l. walk (neg_ℤ l ∷ falses) (p + 1) cs) (Fails HintNotUnit (p + 1))) → ⊥
+    go : ((l : ℤ) → holds a l ≡ true → IsOk (walk (neg_ℤ l ∷ falses) (p + 1) cs) → ⊥) → (u : Clause) → satisfies_clause a u ≡ true → IsOk (by_left u (Ok (p + 1)) (λ l. walk (neg_ℤ l ∷ falses) (p + 1) cs) (fails HintNotUnit (p + 1))) → ⊥
     go ih [] t e = ft t
     go ih (l ∷ []) t e =
         elim (or_cases (holds a l) false t) [
           | inl t ↦ ih l t e
           | inr t ↦ ft t
         ]
-    go ih (l ∷ k ∷ ks) t e = absurd e
+    go ih (l ∷ k ∷ ks) t e = ft e
 
 all_false : (a : Assignment) (c : Clause) → satisfies_clause a c ≡ false → AllFalse a c
 all_false a [] e = tt
@@ -83,26 +77,26 @@ all_false a (l ∷ ls) e = let h = or_parts (holds a l) (satisfies_clause a ls) 
 abbrev KnownSatisfied : Assignment → Known → Type 0
 KnownSatisfied a K = (h : ℕ) (c : Clause) → K h ≡ Some c → satisfies_clause a c ≡ true
 
-gather_satisfied : (a : Assignment) (K : Known) → KnownSatisfied a K → (hs : List ℕ) (p : ℕ) (cs : List Clause) → gather K p hs ≡ found cs → AllSatisfied a cs
+gather_satisfied : (a : Assignment) (K : Known) → KnownSatisfied a K → (hs : List ℕ) (p : ℕ) (cs : List Clause) → gather K p hs ≡ Ok cs → AllSatisfied a cs
 gather_satisfied a K s [] p cs e = let d : [] ≡ cs = cc in subst (AllSatisfied a) d tt
 gather_satisfied a K s (h ∷ hs) p cs e =
     let f = first K p h hs cs e in
     subst (AllSatisfied a) (sym f.parts) (s h f.clause f.names, gather_satisfied a K s hs (p + 1) f.rest f.others)
 
-through_sound : (a : Assignment) (K : Known) → KnownSatisfied a K → (c : Clause) (hs : List ℕ) → IsFollows (through c (gather K 0 hs)) → satisfies_clause a c ≡ true
+through_sound : (a : Assignment) (K : Known) → KnownSatisfied a K → (c : Clause) (hs : List ℕ) → IsOk (through c (gather K 0 hs)) → satisfies_clause a c ≡ true
 through_sound a K s c hs e = go (satisfies_clause a c) refl (gather K 0 hs) refl e
   where
-    go : (b : Bool) → satisfies_clause a c ≡ b → (g : Gathered) → gather K 0 hs ≡ g → IsFollows (through c g) → b ≡ true
+    go : (b : Bool) → satisfies_clause a c ≡ b → (g : Gathered) → gather K 0 hs ≡ g → IsOk (through c g) → b ≡ true
     go true q g r e = refl
-    go false q (unknown p) r e = absurd e
-    go false q (found cs) r e = absurd (walk_sound a cs c 0 (all_false a c q) (gather_satisfied a K s hs 0 cs r) e)
+    go false q (Err p) r e = ft e
+    go false q (Ok cs) r e = absurd (walk_sound a cs c 0 (all_false a c q) (gather_satisfied a K s hs 0 cs r) e)
 
-verdict_sound : (a : Assignment) (v : ℕ) (K : Known) → KnownSatisfied a K → (l : Line) → IsFollows (verdict v K l) → satisfies_clause a l.literals ≡ true
+verdict_sound : (a : Assignment) (v : ℕ) (K : Known) → KnownSatisfied a K → (l : Line) → IsOk (verdict v K l) → satisfies_clause a l.literals ≡ true
 verdict_sound a v K s l e = go (outside v l.literals) (twice l.literals) e
   where
-    go : (b c : Bool) → IsFollows (cond b (Fails LineVariableAbove 0) (cond c (Fails LineVariableTwice 0) (through l.literals (gather K 0 l.hints)))) → satisfies_clause a l.literals ≡ true
-    go true c e = absurd e
-    go false true e = absurd e
+    go : (b c : Bool) → IsOk (cond b (fails LineVariableAbove 0) (cond c (fails LineVariableTwice 0) (through l.literals (gather K 0 l.hints)))) → satisfies_clause a l.literals ≡ true
+    go true c e = ft e
+    go false true e = ft e
     go false false e = through_sound a K s l.literals l.hints e
 
 -- the clauses of the formula, and the lines
@@ -136,5 +130,5 @@ known_satisfied a cs ls sc sl h c e = go (leb h (length cs)) e
     go true e = low h e
     go false e = line (line_named ls h) refl e
 
-pub sound : (v : ℕ) (cs : List Clause) (ls : List Line) (l : Line) (h : ℕ) → verdict v (clause_named cs ls) l ≡ Follows h → (a : Assignment) → satisfies a cs ≡ true → Satisfies a ls → satisfies_clause a l.literals ≡ true
-sound v cs ls l h e a sc sl = verdict_sound a v (clause_named cs ls) (known_satisfied a cs ls sc sl) l (subst IsFollows (sym e) tt)
+pub sound : (v : ℕ) (cs : List Clause) (ls : List Line) (l : Line) (h : ℕ) → verdict v (clause_named cs ls) l ≡ Ok h → (a : Assignment) → satisfies a cs ≡ true → Satisfies a ls → satisfies_clause a l.literals ≡ true
+sound v cs ls l h e a sc sl = verdict_sound a v (clause_named cs ls) (known_satisfied a cs ls sc sl) l (ap is_ok e)

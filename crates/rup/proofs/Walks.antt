@@ -1,20 +1,19 @@
 -- One hint of a walk. Assumes nothing.
-use Rattle.std.proofs.Common.{◌≡◌, ℕ, ◌+◌, ◌<◌, ◌≤◌, List, ◌∷◌, length, get_or, drop, ℤ, neg_ℤ, Some, None, ap, ◌∙◌, arith}
+use Rattle.std.proofs.Common.{◌≡◌, ℕ, ◌+◌, ◌<◌, ◌≤◌, List, ◌∷◌, length, get_or, drop, ℤ, neg_ℤ, Some, None, ap, ◌∙◌, arith, Ok}
 use Rattle.std.proofs.lemmas.List.{at_drop_all}
 use Rattle.answers.specs.declared.fault.Fault.TheVariants.{HintNotUnit, NoConflict}
 use Rattle.formula.specs.Clauses.{Clause}
-use Rattle.rup.specs.declared.verdict.Verdict.TheVariants.{Follows, Fails}
-use Rattle.rup.specs.Propagation.{Known, gather, found, left, by_left, walk}
+use Rattle.rup.specs.Propagation.{fails, Known, gather, left, by_left, walk}
 use Rattle.rup.proofs.Gathers.{gathered_at, gathered_length}
 
-module _ (K : Known) (hs : List ℕ) (cs : List Clause) (gs : List ℤ) (p : ℕ) (all : gather K 0 hs ≡ found cs) where
+module _ (K : Known) (hs : List ℕ) (cs : List Clause) (gs : List ℤ) (p : ℕ) (all : gather K 0 hs ≡ Ok cs) where
   -- at a hint, by what is left of its clause
-  pub walk_at : (c : Clause) (low : p < length hs) → Some c ≡ K (get_or hs p 0) → walk gs p (drop p cs) ≡ by_left (left gs c) (Follows (p + 1)) (λ l. walk (neg_ℤ l ∷ gs) (p + 1) (drop (p + 1) cs)) (Fails HintNotUnit (p + 1))
+  pub walk_at : (c : Clause) (low : p < length hs) → Some c ≡ K (get_or hs p 0) → walk gs p (drop p cs) ≡ by_left (left gs c) (Ok (p + 1)) (λ l. walk (neg_ℤ l ∷ gs) (p + 1) (drop (p + 1) cs)) (fails HintNotUnit (p + 1))
   walk_at c low is =
       let g = gathered_at K 0 hs cs p all low in
       let n = g.1 in
       let d : g.0 ≡ c = cc in
-      ap (walk gs p) g.2 ∙ ap (λ (c : Clause). by_left (left gs c) (Follows (p + 1)) (λ l. walk (neg_ℤ l ∷ gs) (p + 1) (drop (p + 1) cs)) (Fails HintNotUnit (p + 1))) d
+      ap (walk gs p) g.2 ∙ ap (λ (c : Clause). by_left (left gs c) (Ok (p + 1)) (λ l. walk (neg_ℤ l ∷ gs) (p + 1) (drop (p + 1) cs)) (fails HintNotUnit (p + 1))) d
 
   -- no hint names nothing
   pub no_hint : p < length hs → None ≡ K (get_or hs p 0) → ⊥
@@ -24,8 +23,8 @@ module _ (K : Known) (hs : List ℕ) (cs : List Clause) (gs : List ℤ) (p : ℕ
       let z : ◌≡◌ {A = ℕ} 0 1 = cc in omega arith
 
   -- behind the last hint
-  pub walk_end : p ≤ length hs → length hs ≤ p → walk gs p (drop p cs) ≡ Fails NoConflict (length hs)
+  pub walk_end : p ≤ length hs → length hs ≤ p → walk gs p (drop p cs) ≡ fails NoConflict (length hs)
   walk_end a b =
       let n = gathered_length K 0 hs cs all in
       let e : p ≡ length hs = omega arith in
-      at_drop_all (walk gs p) cs p (omega arith) ∙ ap (λ (k : ℕ). Fails NoConflict k) e
+      at_drop_all (walk gs p) cs p (omega arith) ∙ ap (λ (k : ℕ). fails NoConflict k) e

@@ -4,4 +4,4 @@ use Rattle.rup.specs.declared.assignment.AssignmentBytes.{AssignmentBytes}
 
 -- every byte that was lent, those behind the literals' too
 abbrev pub bytes_of : AssignmentBytes → List ℕ
-bytes_of a = a.lent.bytes.now
+bytes_of a = a.bytes.now

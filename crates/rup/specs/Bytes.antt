@@ -1,5 +1,6 @@
 -- The assignment bytes: one for each literal, 1 where the literal is false. Assumes nothing.
-use Rattle.std.specs.Prelude.{◌≡◌, ℕ, ◌+◌, ◌-◌, ◌*◌, ◌≤◌, Bool, true, cond, ◌&&◌, List, [], ◌∷◌, length, take, ℤ, pos, negsuc, ◌==◌, nat_le, slice_index}
+use Rattle.std.specs.Prelude.{◌≡◌, ℕ, ◌+◌, ◌-◌, ◌*◌, ◌≤◌, Bool, cond, ◌&&◌, List, length, take, ℤ, pos, negsuc, ◌==◌, nat_le, slice_index}
+use Rattle.std.specs.List.{list_all}
 use Rattle.formula.specs.Clauses.{LiteralOf}
 use Rattle.rup.specs.Propagation.{among}
 
@@ -9,8 +10,7 @@ byte_of (pos v) = 2 * v - 2
 byte_of (negsuc v) = 2 * (v + 1) - 1
 
 abbrev pub all_zero : List ℕ → Bool
-all_zero [] = true
-all_zero (b ∷ bs) = b == 0 && all_zero bs
+all_zero bs = list_all (λ b. b == 0) bs
 
 -- bytes for the literals of v variables, all zero; what lies behind them may be anything
 abbrev pub clean : ℕ → List ℕ → Bool

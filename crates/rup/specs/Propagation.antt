@@ -1,36 +1,43 @@
 -- Unit propagation through the clauses that hints name. Assumes nothing.
-use Rattle.std.specs.Prelude.{ℕ, ◌+◌, Bool, false, cond, ◌||◌, List, [], ◌∷◌, ℤ, pos, negsuc, neg_ℤ, Some, None, Option, ◌==◌}
+use Rattle.std.specs.Prelude.{ℕ, ◌+◌, Bool, false, cond, ◌||◌, List, [], ◌∷◌, ℤ, pos, negsuc, neg_ℤ, Some, None, Ok, Err, Option, Result, ◌==◌}
+use Rattle.answers.specs.declared.fault.Fault.{Fault}
 use Rattle.answers.specs.declared.fault.Fault.TheVariants.{UnknownHint, HintNotUnit, NoConflict}
 use Rattle.formula.specs.Clauses.{Clause}
-use Rattle.rup.specs.declared.verdict.Verdict.{Verdict}
-use Rattle.rup.specs.declared.verdict.Verdict.TheVariants.{Follows, Fails}
+use Rattle.rup.specs.declared.failure.Failure.{Failure}
+
+-- what a check says of a line: that it follows, by the position, from 1, of the hint at which the
+-- conflict came, or why it does not
+abbrev pub Verdict : Type 0
+Verdict = Result ℕ Failure
+
+abbrev pub fails : Fault → ℕ → Verdict
+fails f p = Err (record { fault = f; hint = p })
 
 -- which clause a number names, if any
 abbrev pub Known : Type 0
 Known = ℕ → Option Clause
 
 -- the clauses that hints name, or the position, from 1, of the first hint that names none
-pub data Gathered : Type 0 where
-  found : (clauses : List Clause) → Gathered
-  unknown : (position : ℕ) → Gathered
+abbrev pub Gathered : Type 0
+Gathered = Result (List Clause) ℕ
 
 abbrev pub before : Clause → Gathered → Gathered
-before c (found cs) = found (c ∷ cs)
-before c (unknown p) = unknown p
+before c (Ok cs) = Ok (c ∷ cs)
+before c (Err p) = Err p
 
 abbrev pub gathered : Option Clause → ℕ → Gathered → Gathered
 gathered (Some c) p rest = before c rest
-gathered None p rest = unknown p
+gathered None p rest = Err p
 
 -- behind p hints that name a clause
 abbrev pub gather : Known → ℕ → List ℕ → Gathered
-gather K p [] = found []
+gather K p [] = Ok []
 gather K p (h ∷ hs) = gathered (K h) (p + 1) (gather K (p + 1) hs)
 
 -- the first hint that names no clause, if there is one
 abbrev pub unknown_in : Gathered → Option ℕ
-unknown_in (found cs) = None
-unknown_in (unknown p) = Some p
+unknown_in (Ok cs) = None
+unknown_in (Err p) = Some p
 
 abbrev pub same : ℤ → ℤ → Bool
 same (pos m) (pos n) = m == n
@@ -56,10 +63,10 @@ by_left (l ∷ k ∷ ks) conflict unit more = more
 -- through the clauses of hints in turn, behind p of them: a clause of which nothing is left is a
 -- conflict, one literal left makes its opposite false, and more than one literal left fails
 abbrev pub walk : List ℤ → ℕ → List Clause → Verdict
-walk falses p [] = Fails NoConflict p
-walk falses p (c ∷ cs) = by_left (left falses c) (Follows (p + 1)) (λ l. walk (neg_ℤ l ∷ falses) (p + 1) cs) (Fails HintNotUnit (p + 1))
+walk falses p [] = fails NoConflict p
+walk falses p (c ∷ cs) = by_left (left falses c) (Ok (p + 1)) (λ l. walk (neg_ℤ l ∷ falses) (p + 1) cs) (fails HintNotUnit (p + 1))
 
 -- from the literals of a line made false
 abbrev pub through : Clause → Gathered → Verdict
-through ls (found cs) = walk ls 0 cs
-through ls (unknown p) = Fails UnknownHint p
+through ls (Ok cs) = walk ls 0 cs
+through ls (Err p) = fails UnknownHint p

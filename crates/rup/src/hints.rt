@@ -9,10 +9,6 @@ use lines::lines::Lines;
 pub(crate) fn unknown_hint(lines: &Lines, hints: &[u32]) -> Option<usize>
     ensures { result ≡ unknown_in (gather (named_in lines.now) 0 hints.now) }
 {
-    for (p, h) in hints.iter().enumerate() {
-        let Some(_) = lines.clause(*h) else {
-            return Some(p + 1);
-        };
-    }
-    None
+    let place = hints.iter().position(|h| lines.clause(*h).is_none());
+    place.map(|p| p + 1)
 }

@@ -3,9 +3,9 @@
 
 pub mod assignment;
 pub mod check;
+pub mod failure;
 mod guard;
 mod hints;
 mod literal;
 pub mod offer;
 mod propagation;
-pub mod verdict;

@@ -10,23 +10,20 @@ pub(crate) fn byte_of(literal: i32) -> usize
     requires { 1 ≤ unsigned_abs literal }
     ensures { result ≡ byte_of literal }
 {
-    let n = literal as i64;
-    if n < 0 {
-        (-n) as usize * 2 - 1
-    } else {
-        n as usize * 2 - 2
-    }
+    let v = literal.unsigned_abs() as usize;
+    if literal < 0 { 2 * v - 1 } else { 2 * v - 2 }
 }
 
 // Whether some variable stands twice, in either sign.
 pub(crate) fn is_twice(literals: &[i32]) -> bool
     ensures { result ≡ twice literals.now }
 {
-    let n = literals.len();
-    for i in 0..n {
-        if has_variable(&literals[i + 1..], literals[i].unsigned_abs()) {
+    let mut rest = literals;
+    while let [literal, others @ ..] = rest {
+        if has_variable(others, literal.unsigned_abs()) {
             return true;
         }
+        rest = others;
     }
     false
 }

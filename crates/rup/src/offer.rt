@@ -6,7 +6,7 @@ ghost use Rattle.rup.specs.Offers.{offered, AfterOffer};
 
 use crate::assignment::AssignmentBytes;
 use crate::check::check;
-use crate::verdict::Verdict;
+use crate::failure::Failure;
 use answers::fault::Fault;
 use answers::refusal::Refusal;
 use lines::addition::Addition;
@@ -26,42 +26,17 @@ pub fn offer(
     ensures answer { result ≡ offered lines.old (bytes_of assignment.old) solver place next (line_of line.entry) }
     ensures lines { AfterOffer result lines.old lines.new (line_of line.entry) }
     ensures bytes { bytes_of assignment.new ≡ bytes_of assignment.old }
-    ensures lender { assignment.new.lent.bytes.ghost_name ≡ assignment.old.lent.bytes.ghost_name }
+    ensures lender { assignment.new.bytes.ghost_name ≡ assignment.old.bytes.ghost_name }
 {
     if !assignment.is_clean(lines.variables()) {
-        return Err(Refusal {
-            fault: Fault::AssignmentBytes,
-            solver,
-            place: 0,
-            hint: 0,
-        });
+        return Err(Failure::at(Fault::AssignmentBytes, 0).refusal(solver, 0));
     }
     if line.number as usize != next {
-        return Err(Refusal {
-            fault: Fault::NotNext,
-            solver,
-            place,
-            hint: 0,
-        });
+        return Err(Failure::at(Fault::NotNext, 0).refusal(solver, place));
     }
-    match check(lines, assignment, line) {
-        Verdict::Fails(fault, hint) => Err(Refusal {
-            fault,
-            solver,
-            place,
-            hint,
-        }),
-        Verdict::Follows(hint) => {
-            if lines.store(line) {
-                Ok(hint)
-            } else {
-                Err(Refusal {
-                    fault: Fault::NoSpace,
-                    solver,
-                    place,
-                    hint: 0,
-                })
-            }
-        }
+    let hint = check(lines, assignment, line).map_err(|failure| failure.refusal(solver, place))?;
+    if !lines.store(line) {
+        return Err(Failure::at(Fault::NoSpace, 0).refusal(solver, place));
     }
+    Ok(hint)
 }

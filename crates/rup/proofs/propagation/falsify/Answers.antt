@@ -1,13 +1,10 @@
-use Rattle.std.proofs.Common.{◌≡◌, ℕ, ◌+◌, ◌*◌, ◌∷◌, get_or, take, set, pos, sym, refl, ap, ◌∙◌, subst, w32, to_z, of_z, rules}
-use Rattle.std.proofs.lemmas.List.{take_more, take_all}
+use Rattle.std.proofs.Common.{◌≡◌, ℕ, ◌+◌, ◌∷◌, get_or, take, set, pos, sym, ap, ◌∙◌, subst, w32, to_z, of_z, rules}
+use Rattle.std.proofs.lemmas.List.{take_more}
 use Rattle.std.proofs.lemmas.Int.{to_z-of_z}
 use Rattle.rup.specs.Bytes.{byte_of, Shows}
 use Rattle.rup.specs.Propagation.{among}
-use Rattle.rup.proofs.Shown.{shows_none, shows_more, shows_as, among_push}
+use Rattle.rup.proofs.Shown.{shows_more, shows_as, among_push}
 use Rattle.rup.proofs.propagation.falsify.Goals as goal
-
-pub loop-l-init : goal.loop-l-init
-loop-l-init c = shows_none c.args.variables (2 * c.args.variables) c.args.bytes.now c.requires.zero refl
 
 pub loop-l-preserved : goal.loop-l-preserved
 loop-l-preserved c =
@@ -21,6 +18,3 @@ loop-l-preserved c =
     let s = shows_more v bs (take i ls) z (c.requires.ranged i c.loop-l-test.true) c.loop-l.invariant in
     let t = take_more ls i (pos 0) c.loop-l-test.true in
     subst (λ (k : ℕ). Shows v (set bs k 1) (take (i + 1) ls)) (sym b) (shows_as v (set bs (byte_of z) 1) (z ∷ take i ls) (take (i + 1) ls) (λ k. among_push k z (take i ls) ∙ ap (among k) (sym t)) s)
-
-pub returns : goal.returns
-returns c = subst (Shows c.args.variables c.loop-l.bytes) (take_all c.loop-l.l-index c.args.literals.now c.loop-l-test.false) c.loop-l.invariant

@@ -1,12 +1,11 @@
-use Rattle.std.proofs.Common.{◌≡◌, ℕ, ◌+◌, ◌≤◌, true, false, List, ◌∷◌, get_or, drop, set, ℤ, pos, neg_ℤ, sym, refl, ap, ◌∙◌, subst, arith, w32, to_z, of_z, rules}
+use Rattle.std.proofs.Common.{◌≡◌, ℕ, ◌+◌, ◌≤◌, true, false, List, ◌∷◌, get_or, drop, set, ℤ, pos, neg_ℤ, sym, refl, ap, ◌∙◌, subst, arith, w32, to_z, of_z, rules, Ok, Err}
 use Rattle.std.proofs.lemmas.Int.{to_z-of_z}
 use Rattle.answers.specs.declared.fault.Fault.TheVariants.{HintNotUnit}
 use Rattle.formula.specs.Clauses.{Clause, LiteralOf}
 use Rattle.lines.specs.Tables.{variables_in, named_in}
-use Rattle.rup.specs.declared.verdict.Verdict.TheVariants.{Follows, Fails}
 use Rattle.rup.specs.Bytes.{byte_of, Shows}
-use Rattle.rup.specs.Propagation.{among, left, by_left, walk}
-use Rattle.rup.proofs.Lefts.{seen, SeenOf, left_skip, left_take, left_first, left_second, left_end, negated}
+use Rattle.rup.specs.Propagation.{fails, among, left, by_left, walk}
+use Rattle.rup.proofs.Lefts.{seen, SeenOf, left_take, left_second, left_end, negated}
 use Rattle.rup.proofs.Shown.{byte_zero, byte_set, shows_more, opposite_of}
 use Rattle.rup.proofs.Walks.{walk_at, no_hint, walk_end}
 use Rattle.rup.proofs.propagation.walk.Goals as goal
@@ -16,31 +15,6 @@ told : (v : ℕ) (bytes : List ℕ) (gs : List ℤ) (l : ℤ) (b : ℕ) → Lite
 told v bytes gs l b lit s e =
     let q = ap (λ (k : ℕ). get_or bytes k 0) e ∙ s.each l lit in
     (byte_zero (among l gs) (get_or bytes b 0) q, byte_set (among l gs) (get_or bytes b 0) q)
-
-pub literals-preserved-then-bytes-byte_of-ne0 : goal.literals-preserved-then-bytes-byte_of-ne0
-literals-preserved-then-bytes-byte_of-ne0 c =
-    let v = variables_in c.args.lines.now in
-    let cl = c.in-Some.clause.now in
-    let i = c.literals.l-index in
-    let z = get_or cl i (pos 0) in
-    let e : to_z w32 (of_z w32 z) ≡ z = search (rules, to_z-of_z) in
-    let lit : LiteralOf v z = c.in-Some.ensures.limits i c.literals-test.true in
-    (c.literals.invariant.0, c.literals.invariant.1, λ gs s. left_skip gs cl i z c.literals-test.true refl c.literals.unit (c.literals.invariant.2 gs s) ((told v c.hints.bytes gs z c.byte_of.result lit s (c.byte_of.ensures ∙ ap byte_of e)).1 c.if-bytes-byte_of-ne0.true))
-
-pub literals-preserved : goal.literals-preserved
-literals-preserved c =
-    let v = variables_in c.args.lines.now in
-    let cl = c.in-Some.clause.now in
-    let i = c.literals.l-index in
-    let z = get_or cl i (pos 0) in
-    let e : to_z w32 (of_z w32 z) ≡ z = search (rules, to_z-of_z) in
-    let lit : LiteralOf v z = c.in-Some.ensures.limits i c.literals-test.true in (
-      c.literals.invariant.0,
-      subst (LiteralOf v) (sym e) lit,
-      λ gs s.
-          left_first gs cl i z c.literals.unit c.in-None.is (left_take gs cl i z c.literals-test.true refl c.literals.unit (c.literals.invariant.2 gs s) ((told v c.hints.bytes gs z c.byte_of.result lit s (c.byte_of.ensures ∙ ap byte_of e)).0 c.if-bytes-byte_of-ne0.false))
-          ∙ ap (λ (l : ℤ). l ∷ left gs (drop (i + 1) cl)) (sym e),
-    )
 
 pub hints-preserved : goal.hints-preserved
 hints-preserved c =
@@ -61,7 +35,7 @@ hints-preserved c =
           let u = left_end gs cl c.literals.l-index c.literals.unit c.literals-test.false (c.literals.invariant.2 gs h.1) ∙ ap seen c.in-Some-unit-2.is in (
             neg_ℤ l ∷ gs,
             subst (λ (k : ℕ). Shows v (set c.hints.bytes k 1) (neg_ℤ l ∷ gs)) (sym b) (shows_more v c.hints.bytes gs (neg_ℤ l) (opposite_of v l lit) h.1),
-            h.2 ∙ walk_at K hs cs gs p all cl c.hints-test.true c.in-Some.ensures.is ∙ ap (λ (r : Clause). by_left r (Follows (p + 1)) (λ k. walk (neg_ℤ k ∷ gs) (p + 1) (drop (p + 1) cs)) (Fails HintNotUnit (p + 1))) u,
+            h.2 ∙ walk_at K hs cs gs p all cl c.hints-test.true c.in-Some.ensures.is ∙ ap (λ (r : Clause). by_left r (Ok (p + 1)) (λ k. walk (neg_ℤ k ∷ gs) (p + 1) (drop (p + 1) cs)) (fails HintNotUnit (p + 1))) u,
           ),
     )
 
@@ -88,7 +62,7 @@ returns-in-Some-unit c = λ cs falses all s.
     let h = c.hints.invariant.1 cs falses all s in
     let gs = h.0 in
     let two = left_take gs cl i z c.literals-test.true refl c.literals.unit (c.literals.invariant.2 gs h.1) ((told v c.hints.bytes gs z c.byte_of.result lit h.1 (c.byte_of.ensures ∙ ap byte_of e)).0 c.if-bytes-byte_of-ne0.false) in
-    sym (h.2 ∙ walk_at K hs cs gs p all cl c.hints-test.true c.in-Some.ensures.is ∙ left_second gs cl z c.literals.unit c.in-Some-unit.field-0 (left gs (drop (i + 1) cl)) (Follows (p + 1)) (λ k. walk (neg_ℤ k ∷ gs) (p + 1) (drop (p + 1) cs)) (Fails HintNotUnit (p + 1)) c.in-Some-unit.is two)
+    ap Err c.at-in-Some-unit.ensures ∙ sym (h.2 ∙ walk_at K hs cs gs p all cl c.hints-test.true c.in-Some.ensures.is ∙ left_second gs cl z c.literals.unit c.in-Some-unit.field-0 (left gs (drop (i + 1) cl)) (Ok (p + 1)) (λ k. walk (neg_ℤ k ∷ gs) (p + 1) (drop (p + 1) cs)) (fails HintNotUnit (p + 1)) c.in-Some-unit.is two)
 
 pub returns-in-None-unit : goal.returns-in-None-unit
 returns-in-None-unit c = λ cs falses all s.
@@ -99,4 +73,4 @@ returns-in-None-unit c = λ cs falses all s.
     let h = c.hints.invariant.1 cs falses all s in
     let gs = h.0 in
     let u = left_end gs cl c.literals.l-index c.literals.unit c.literals-test.false (c.literals.invariant.2 gs h.1) ∙ ap seen c.in-None-unit.is in
-    sym (h.2 ∙ walk_at K hs cs gs p all cl c.hints-test.true c.in-Some.ensures.is ∙ ap (λ (r : Clause). by_left r (Follows (p + 1)) (λ k. walk (neg_ℤ k ∷ gs) (p + 1) (drop (p + 1) cs)) (Fails HintNotUnit (p + 1))) u)
+    sym (h.2 ∙ walk_at K hs cs gs p all cl c.hints-test.true c.in-Some.ensures.is ∙ ap (λ (r : Clause). by_left r (Ok (p + 1)) (λ k. walk (neg_ℤ k ∷ gs) (p + 1) (drop (p + 1) cs)) (fails HintNotUnit (p + 1))) u)

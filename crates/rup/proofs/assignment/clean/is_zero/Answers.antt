@@ -1,25 +1,14 @@
-use Rattle.std.proofs.Common.{◌≡◌, ◌+◌, Bool, true, false, ◌&&◌, drop, sym, refl, ap, ◌∙◌}
-use Rattle.std.proofs.lemmas.List.{at_drop_all}
+use Rattle.std.proofs.Common.{◌≡◌, ℕ, Bool, true, false, ◌&&◌, eqb, List, [], ◌∷◌, fold, refl, ◌∙◌, rules, tests}
+use Rattle.std.proofs.lemmas.Iterator.{YieldsList-from_slice}
+use Rattle.std.proofs.lemmas.Iterator.Consumers.{fold_from_yields_List}
 use Rattle.rup.specs.Bytes.{all_zero}
-use Rattle.rup.proofs.Shown.{zero_more, zero_less}
-use Rattle.rup.proofs.assignment.clean.is_zero.Goals.{then-b-ne0, else-b-ne0}
 use Rattle.rup.proofs.assignment.clean.is_zero.Goals as goal
 
-pub loop-b-preserved : goal.loop-b-preserved
-loop-b-preserved c =
-    let bs = c.args.bytes.now in
-    let i = c.loop-b.b-index in
-    let z = c.loop-b.zero in
-    let l = c.loop-b-test.true in
-    let rest = all_zero (drop (i + 1) bs) in
-    elim c.if-b-ne0.branch [
-      | then-b-ne0 w ↦ ap (λ (y : Bool). y && rest) w.zero-is ∙ sym (zero_less z bs i l w.if-b-ne0.true) ∙ c.loop-b.invariant
-      | else-b-ne0 w ↦ ap (λ (y : Bool). y && rest) w.zero-is ∙ sym (zero_more z bs i l w.if-b-ne0.false) ∙ c.loop-b.invariant
-    ]
-
-and_true : (b : Bool) → b ≡ (b && true)
-and_true true = refl
-and_true false = refl
+zero_from : (bs : List ℕ) (z : Bool) → fold (λ z b. z && eqb b 0) z bs ≡ (z && all_zero bs)
+zero_from [] true = refl
+zero_from [] false = refl
+zero_from (b ∷ bs) true = zero_from bs (eqb b 0)
+zero_from (b ∷ bs) false = zero_from bs false
 
 pub returns : goal.returns
-returns c = and_true c.loop-b.zero ∙ ap (λ (y : Bool). c.loop-b.zero && y) (sym (at_drop_all all_zero c.args.bytes.now c.loop-b.b-index c.loop-b-test.false)) ∙ c.loop-b.invariant
+returns c = fold_from_yields_List _ (λ z b. z && eqb b 0) true c.fold.result c.fold.ensures.ran (YieldsList-from_slice c.args.bytes.now cc) (λ z x b q k. search (rules, tests)) ∙ zero_from c.args.bytes.now true
