@@ -1,5 +1,5 @@
 -- One token of a clause.
-use Rattle.std.proofs.Common.{◌≡◌, ℕ, zero, suc, ◌<◌, Bool, false, cond, List, [], ◌∷◌, ◌++◌, length, ℤ, pos, negsuc, Some, None, Err, refl, ap, ◌∙◌, arith}
+use Rattle.std.proofs.Common.{◌≡◌, ℕ, zero, suc, ◌<◌, Bool, false, cond, List, [], ◌∷◌, ◌++◌, length, ℤ, pos, negsuc, Some, None, Ok, Err, Option, Result, refl, ap, ◌∙◌, arith}
 use Rattle.std.proofs.lemmas.Bool.Decides.{nat_tests}
 use Rattle.answers.specs.declared.fault.Fault.{Fault}
 use Rattle.text.specs.Words.{Token}
@@ -11,6 +11,10 @@ pub nonzero : (z : ℤ) → (z ≡ pos 0 → ⊥) → is_zero z ≡ false
 nonzero (pos zero) h = absurd (h refl)
 nonzero (pos (suc n)) h = refl
 nonzero (negsuc n) h = refl
+
+pub not_admitted : {A : Type 0} (x : A) (o : Option Fault) (f : Fault) → ◌≡◌ {A = Result A Fault} (Err f) (unless o (Ok x)) → o ≡ Some f
+not_admitted x (Some g) f e = cc
+not_admitted x None f e = absurd cc
 
 module _ (v : ℕ) (s : Bool) (ls : Clause) (z : ℤ) (ts : List Token) (h : is_zero z ≡ false) where
   on : clause_from v s ls (number z ∷ ts) ≡ unless (offence v s ls z) (clause_from v s (ls ++ z ∷ []) ts)

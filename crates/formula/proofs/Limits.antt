@@ -17,7 +17,7 @@ use Rattle.formula.specs.Reading.Reading.{formula, refused}
 no_clause : (f : Fault) (c : Clause) → ◌≡◌ {A = Result Clause Fault} (Err f) (Ok c) → ⊥
 no_clause f c e = let z : ◌≡◌ {A = ℕ} 0 1 = cc in omega arith
 
-no_formula : (f : Fault) (n v : ℕ) (cs : List Clause) → refused f n ≡ formula v cs → ⊥
+pub no_formula : (f : Fault) (n v : ℕ) (cs : List Clause) → refused f n ≡ formula v cs → ⊥
 no_formula f n v cs e = let z : ◌≡◌ {A = ℕ} 0 1 = cc in omega arith
 
 nothing : {A : Type 0} (x : A) → ◌≡◌ {A = Option A} None (Some x) → ⊥
@@ -162,7 +162,7 @@ and_then_lem : (n : ℕ) (r : Result Clause Fault) (go : Clause → Reading) (w 
 and_then_lem n (Ok c) go w ds e = (c, refl, e)
 and_then_lem n (Err f) go w ds e = absurd (no_formula f n w ds e)
 
-ended : (b : Bool) (v : ℕ) (cs : List Clause) (w : ℕ) (ds : List Clause) → cond b (formula v cs) (refused ClauseCount 0) ≡ formula w ds → (b ≡ true) × (w ≡ v) × (ds ≡ cs)
+pub ended : (b : Bool) (v : ℕ) (cs : List Clause) (w : ℕ) (ds : List Clause) → cond b (formula v cs) (refused ClauseCount 0) ≡ formula w ds → (b ≡ true) × (w ≡ v) × (ds ≡ cs)
 ended true v cs w ds e = (refl, cc, cc)
 ended false v cs w ds e = absurd (no_formula ClauseCount 0 w ds e)
 

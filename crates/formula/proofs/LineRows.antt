@@ -1,45 +1,61 @@
 -- The rows of a formula file, line by line.
-use Rattle.std.proofs.Common.{◌≡◌, ℕ, ◌+◌, ◌<◌, ◌≤◌, true, false, eqb, List, [], ◌∷◌, length, get_or, drop, sym, ap, ◌∙◌, inl, inr, arith}
-use Rattle.std.proofs.lemmas.List.{at_drop_more, at_drop_all, drop_all}
-use Rattle.std.proofs.lemmas.Bool.{cases_eq, ne_eqb}
-use Rattle.text.specs.Words.{Token, lines_of}
-use Rattle.text.specs.Fronts.{line_of, behind_line, tokens_left}
-use Rattle.text.proofs.Lines.{lines_at}
+use Rattle.std.proofs.Common.{◌≡◌, ℕ, ◌+◌, ◌<◌, Bool, true, false, cond, ◌||◌, eqb, List, [], ◌∷◌, length, Some, None, sym, refl, ap, ◌∙◌, inl, inr, arith}
+use Rattle.std.proofs.lemmas.Bool.{cases_Bool, true≢false, false≢true}
+use Rattle.text.specs.Words.{Token}
+use Rattle.text.specs.Fronts.{line_of, behind_line, tokens_left, no_tokens}
+use Rattle.text.proofs.Lines.{lines_front}
 use Rattle.formula.specs.Rows.{Row, comment, with_line, rows_behind}
-use Rattle.formula.specs.Cursors.{rows_at, Over}
+use Rattle.formula.specs.Cursors.{rows_at}
 
--- the first byte says whether a line is a comment
-comment_first : (c : ℕ) (cs : List ℕ) → comment (line_of (c ∷ cs)) ≡ eqb c 99
-comment_first c cs = elim (cases_eq c 10) [ inl e ↦ ap (λ d. comment (line_of (d ∷ cs))) e ∙ sym (ap (λ d. eqb d 99) e) | inr n ↦ simp (ne_eqb c 10 n) ]
+pub line_shorter : (text : List ℕ) → 0 < length text → length (behind_line text) < length text
+line_shorter [] h = absurd (omega arith)
+line_shorter (c ∷ []) h = elim (cases_Bool (eqb c 10)) [ inl e ↦ simp e (omega arith) | inr e ↦ simp e (omega arith) ]
+line_shorter (c ∷ d ∷ ds) h =
+    let i = line_shorter (d ∷ ds) (omega arith) in
+    elim (cases_Bool (eqb c 10)) [ inl e ↦ simp e (omega arith) | inr e ↦ simp e (omega (arith, i)) ]
 
-module _ (bs : List ℕ) (at : ℕ) (h : at < length bs) where
-  pub comment_at : comment (line_of (drop at bs)) ≡ eqb (get_or bs at 0) 99
-  comment_at = at_drop_more (λ x. comment (line_of x)) bs at 0 h ∙ comment_first (get_or bs at 0) (drop (at + 1) bs)
+-- a line that says nothing, and one that does
+silent : (n : ℕ) (b : Bool) (ts : List Token) (rs : List Row) → (b || no_tokens ts) ≡ true → with_line n b ts rs ≡ rs
+silent n true ts rs h = refl
+silent n false [] rs h = refl
+silent n false (t ∷ ts) rs h = absurd (false≢true h)
 
-  rows_line : (n : ℕ) → rows_at bs at n ≡ with_line (n + 1) (comment (line_of (drop at bs))) (tokens_left (drop at bs)) (rows_behind (n + 1) (lines_of (behind_line (drop at bs))))
-  rows_line n = ap (rows_behind n) (lines_at bs at h)
+spoken : (n : ℕ) (b : Bool) (ts : List Token) (rs : List Row) → (b || no_tokens ts) ≡ false → with_line n b ts rs ≡ record { line = n; tokens = ts } ∷ rs
+spoken n true ts rs h = absurd (true≢false h)
+spoken n false [] rs h = absurd (true≢false h)
+spoken n false (t ∷ ts) rs h = refl
 
-  pub rows_comment : (next : ℕ) → comment (line_of (drop at bs)) ≡ true → Over bs at next → (n : ℕ) → rows_at bs at n ≡ rows_at bs next (n + 1)
-  rows_comment next e o n =
-      rows_line n ∙ ap (λ b. with_line (n + 1) b (tokens_left (drop at bs)) (rows_behind (n + 1) (lines_of (behind_line (drop at bs))))) e
-      ∙ ap (λ x. rows_behind (n + 1) (lines_of x)) o.line
+-- what an answer tells of its test
+pub some_if : {A : Type 0} (b : Bool) (x y : A) → Some y ≡ cond b (Some x) None → (b ≡ true) × (y ≡ x)
+some_if true x y e = (refl, cc)
+some_if false x y e = absurd (cc)
 
-  pub rows_blank : (next : ℕ) → comment (line_of (drop at bs)) ≡ false → tokens_left (drop at bs) ≡ [] → Over bs at next → (n : ℕ) → rows_at bs at n ≡ rows_at bs next (n + 1)
-  rows_blank next e t o n =
-      rows_line n ∙ ap (λ b. with_line (n + 1) b (tokens_left (drop at bs)) (rows_behind (n + 1) (lines_of (behind_line (drop at bs))))) e
-      ∙ ap (λ ts. with_line (n + 1) false ts (rows_behind (n + 1) (lines_of (behind_line (drop at bs))))) t
-      ∙ ap (λ x. rows_behind (n + 1) (lines_of x)) o.line
+pub none_if : {A : Type 0} (b : Bool) (x : A) → None ≡ cond b (Some x) None → b ≡ false
+none_if true x e = absurd (cc)
+none_if false x e = refl
 
-  pub rows_row : (t : Token) (ts : List Token) → comment (line_of (drop at bs)) ≡ false → tokens_left (drop at bs) ≡ t ∷ ts → (n : ℕ) → rows_at bs at n ≡ record { line = n + 1; tokens = tokens_left (drop at bs) } ∷ rows_behind (n + 1) (lines_of (behind_line (drop at bs)))
-  rows_row t ts e q n =
-      let rest = rows_behind (n + 1) (lines_of (behind_line (drop at bs))) in
-      let row : List Token → Row = λ x. record { line = n + 1; tokens = x } in
-      rows_line n ∙ ap (λ b. with_line (n + 1) b (tokens_left (drop at bs)) rest) e
-      ∙ ap (λ x. with_line (n + 1) false x rest) q ∙ ap (λ x. row x ∷ rest) (sym q)
+further : (n k : ℕ) → n + k + 1 ≡ n + (k + 1)
+further n k = omega arith
 
-pub rows_end : (bs : List ℕ) (at n : ℕ) → length bs ≤ at → rows_at bs at n ≡ []
-rows_end bs at n h = at_drop_all (λ x. rows_behind n (lines_of x)) bs at h
+abbrev pub row_at : ℕ → List ℕ → List Row
+row_at n text = record { line = n; tokens = tokens_left text } ∷ rows_at (behind_line text) n
 
--- the last line, without a line feed
-pub over_at_end : (bs : List ℕ) (at : ℕ) → at ≤ length bs → behind_line (drop at bs) ≡ [] → Over bs at (length bs)
-over_at_end bs at l e = record { line = e ∙ sym (drop_all (length bs) bs (omega arith)); after = l; on = λ h. h; inside = omega arith }
+module _ (text : List ℕ) (h : 0 < length text) where
+  abbrev passes : Bool
+  passes = comment (line_of text) || no_tokens (tokens_left text)
+
+  rows_first : (n : ℕ) → rows_at text n ≡ with_line (n + 1) (comment (line_of text)) (tokens_left text) (rows_at (behind_line text) (n + 1))
+  rows_first n = ap (rows_behind n) (lines_front text h)
+
+  -- the line at the front is passed over
+  pub passed : (behind : List ℕ) → Some behind ≡ cond passes (Some (behind_line text)) None → (length behind < length text) × ((n k : ℕ) → rows_at text (n + k) ≡ rows_at behind (n + (k + 1)))
+  passed behind e =
+      let p = some_if passes (behind_line text) behind e in
+      let l = line_shorter text h in
+      (omega (arith, ap length p.1), λ n k. rows_first (n + k) ∙ silent (n + k + 1) (comment (line_of text)) (tokens_left text) (rows_at (behind_line text) (n + k + 1)) p.0 ∙ ap (λ x. rows_at x (n + k + 1)) (sym p.1) ∙ ap (rows_at behind) (further n k))
+
+  -- it is a row
+  pub stopped : None ≡ cond passes (Some (behind_line text)) None → (n k : ℕ) → rows_at text (n + k) ≡ row_at (n + (k + 1)) text
+  stopped e n k =
+      rows_first (n + k) ∙ spoken (n + k + 1) (comment (line_of text)) (tokens_left text) (rows_at (behind_line text) (n + k + 1)) (none_if passes (behind_line text) e)
+      ∙ ap (λ m. row_at m text) (further n k)

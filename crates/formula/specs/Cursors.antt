@@ -1,47 +1,32 @@
--- What the reader's steps tell of the rows and tokens from a position on. Assumes nothing.
-use Rattle.std.specs.Prelude.{◌≡◌, ℕ, ◌+◌, ◌<◌, ◌≤◌, Bool, false, List, [], ◌∷◌, length, take, drop, ℤ, pos, Some, None, Ok, Err, Option, Result}
+-- What the reader's steps tell of the rows and tokens of the text that is left. Assumes nothing.
+use Rattle.std.specs.Prelude.{◌≡◌, ℕ, ◌+◌, ◌<◌, ◌≤◌, Bool, false, cond, List, [], ◌∷◌, ◌++◌, length, ℤ, pos, Some, None, Ok, Err, Option, Result, ◌==◌}
+use denote.Bor.{Bor}
 use Rattle.answers.specs.declared.fault.Fault.{Fault}
+use Rattle.answers.specs.declared.fault.Fault.TheVariants.{ClauseCount}
+use Rattle.answers.specs.declared.refusal.Refusal.{Refusal}
+use Rattle.answers.specs.Refusals.{refusal_at}
 use Rattle.text.specs.Words.{Token, lines_of}
 use Rattle.text.specs.Words.Token.{number, word}
 use Rattle.text.specs.Fronts.{tokens_left, behind_line, Goes}
-use Rattle.formula.specs.Clauses.{Clause}
+use Rattle.formula.specs.Clauses.{Clause, ClauseOf}
 use Rattle.formula.specs.Rows.{Row, rows_behind}
-use Rattle.formula.specs.Reading.{is_word, number_in, header_of, closed, clause_from}
-use Rattle.formula.specs.declared.header.Header.{Header}
-use Rattle.formula.specs.declared.clause.Next.{Next}
-use Rattle.formula.specs.declared.clause.Next.TheVariants.{Clause as Read, Fault as Wrong, End}
+use Rattle.formula.specs.Reading.{is_word, number_in, header_of, closed, clause_of, Reading, formula, refused, read_clauses, reading}
+use Rattle.formula.specs.declared.clauses.Header.{Header}
+use Rattle.formula.specs.declared.clauses.Clauses.{Clauses}
 
--- the rows from `at` on, where a line begins that stands behind n others
-abbrev pub rows_at : List ℕ → ℕ → ℕ → List Row
-rows_at bytes at n = rows_behind n (lines_of (drop at bytes))
+-- the rows of a text, where a line begins that stands behind n others
+abbrev pub rows_at : List ℕ → ℕ → List Row
+rows_at text n = rows_behind n (lines_of text)
 
--- the line that goes on at `from` is over: the next one begins at `next`, which is the end of the text if there is none
-pub record Over (bytes : List ℕ) (from next : ℕ) : Type 0 where
-  pub line : behind_line (drop from bytes) ≡ drop next bytes
-  pub after : from ≤ next
-  pub on : from < length bytes → from < next
-  pub inside : next ≤ length bytes
+-- the next row, whose line is number `line` of the text, counted from 1, and the first of `rest`
+pub record RowAt (text rest : List ℕ) (line : ℕ) : Type 0 where
+  pub rows : (n : ℕ) → rows_at text n ≡ record { line = n + line; tokens = tokens_left rest } ∷ rows_at (behind_line rest) (n + line)
+  pub first : 1 ≤ line
+  pub few : line + length (behind_line rest) ≤ length text
 
--- whether no token is left
-abbrev pub EndAt : List ℕ → ℕ → Option ℕ → Type 0
-EndAt bytes from (Some next) = (tokens_left (drop from bytes) ≡ []) × Over bytes from next
-EndAt bytes from None = (t : Token) × (ts : List Token) × (tokens_left (drop from bytes) ≡ t ∷ ts)
-
--- whether the line that begins at `at` is blank or a comment
-abbrev pub PassedOver : List ℕ → ℕ → Option ℕ → Type 0
-PassedOver bytes at (Some next) = ((n : ℕ) → rows_at bytes at n ≡ rows_at bytes next (n + 1)) × (at < next) × (next ≤ length bytes)
-PassedOver bytes at None = (n : ℕ) → rows_at bytes at n ≡ record { line = n + 1; tokens = tokens_left (drop at bytes) } ∷ rows_behind (n + 1) (lines_of (behind_line (drop at bytes)))
-
--- the next row, which begins at `at` and is line `line`
-pub record RowAt (bytes : List ℕ) (from before at line : ℕ) : Type 0 where
-  pub rows : rows_at bytes from before ≡ record { line = line; tokens = tokens_left (drop at bytes) } ∷ rows_behind line (lines_of (behind_line (drop at bytes)))
-  pub low : line ≤ at + 1
-  pub after : from ≤ at
-  pub inside : at < length bytes
-
-abbrev pub Sought : List ℕ → ℕ → ℕ → Option (ℕ × ℕ) → Type 0
-Sought bytes from before None = rows_at bytes from before ≡ []
-Sought bytes from before (Some p) = RowAt bytes from before p.0 p.1
+abbrev pub Sought : List ℕ → Option (Bor (List ℕ) × ℕ) → Type 0
+Sought text None = (n : ℕ) → rows_at text n ≡ []
+Sought text (Some p) = RowAt text p.0.now p.1
 
 -- the first of some tokens
 abbrev pub begins : List ℕ → List Token → Bool
@@ -52,62 +37,52 @@ abbrev pub first_in : ℕ → ℕ → List Token → Option ℕ
 first_in low high [] = None
 first_in low high (t ∷ ts) = number_in low high t
 
-abbrev pub Keyword : List ℕ → ℕ → List ℕ → Option ℕ → Type 0
-Keyword bytes from w (Some next) = Goes bytes from (word w) next
-Keyword bytes from w None = begins w (tokens_left (drop from bytes)) ≡ false
+abbrev pub Keyword : List ℕ → List ℕ → Option (Bor (List ℕ)) → Type 0
+Keyword text w (Some rest) = Goes text (word w) rest.now
+Keyword text w None = begins w (tokens_left text) ≡ false
 
-abbrev pub Counted : List ℕ → ℕ → ℕ → ℕ → Option (ℕ × ℕ) → Type 0
-Counted bytes from low high (Some p) = Goes bytes from (number (pos p.0)) p.1 × (low ≤ p.0) × (p.0 ≤ high)
-Counted bytes from low high None = first_in low high (tokens_left (drop from bytes)) ≡ None
+abbrev pub Counted : List ℕ → ℕ → ℕ → Option (ℕ × Bor (List ℕ)) → Type 0
+Counted text low high (Some p) = Goes text (number (pos p.0)) p.1.now × (low ≤ p.0) × (p.0 ≤ high)
+Counted text low high None = first_in low high (tokens_left text) ≡ None
 
--- the header's line
-pub record Headed (bytes : List ℕ) (from : ℕ) (h : Header) : Type 0 where
-  pub is : header_of (tokens_left (drop from bytes)) ≡ Some (record { variables = h.variables; clauses = h.clauses })
-  pub some : 1 ≤ h.variables
-  pub low : h.variables ≤ 4096
-  pub few : h.clauses ≤ 65536
-  pub line : behind_line (drop from bytes) ≡ drop h.next bytes
-  pub after : from < h.next
-  pub inside : h.next ≤ length bytes
+-- the line at the front is the header
+abbrev pub HeaderAt : List ℕ → Option (Header × Bor (List ℕ)) → Type 0
+HeaderAt text (Some p) = (header_of (tokens_left text) ≡ Some (record { variables = p.0.variables; clauses = p.0.clauses })) × (p.1.now ≡ behind_line text)
+HeaderAt text None = header_of (tokens_left text) ≡ None
 
-abbrev pub HeaderAt : List ℕ → ℕ → Option Header → Type 0
-HeaderAt bytes from (Some h) = Headed bytes from h
-HeaderAt bytes from None = header_of (tokens_left (drop from bytes)) ≡ None
+-- the 0 of a clause stands before the text; its literals are any
+abbrev pub Closes : List ℕ → Bool → Result (Bor (List ℕ)) Fault → Type 0
+Closes text surplus (Ok rest) = ((ls : Clause) → closed surplus ls (tokens_left text) ≡ Ok ls) × (rest.now ≡ behind_line text)
+Closes text surplus (Err f) = (ls : Clause) → closed surplus ls (tokens_left text) ≡ Err f
 
--- the 0 of a clause stands before `from`; its literals are any
-abbrev pub Closes : List ℕ → ℕ → Bool → Result ℕ Fault → Type 0
-Closes bytes from surplus (Ok next) = ((ls : Clause) → closed surplus ls (tokens_left (drop from bytes)) ≡ Ok ls) × Over bytes from next
-Closes bytes from surplus (Err f) = (ls : Clause) → closed surplus ls (tokens_left (drop from bytes)) ≡ Err f
+-- the line at the front is a clause
+abbrev pub ClauseAt : List ℕ → ℕ → Bool → Result (Bor (List ℤ) × Bor (List ℕ)) Fault → Type 0
+ClauseAt text v surplus (Ok p) = (clause_of v surplus (tokens_left text) ≡ Ok p.0.now) × (p.1.now ≡ behind_line text)
+ClauseAt text v surplus (Err f) = clause_of v surplus (tokens_left text) ≡ Err f
 
--- a clause read from `from` on into out
-pub record ClauseRead (bytes : List ℕ) (from : ℕ) (v : ℕ) (surplus : Bool) (out : List ℤ) (n next : ℕ) : Type 0 where
-  pub is : clause_from v surplus [] (tokens_left (drop from bytes)) ≡ Ok (take n out)
-  pub few : n ≤ 64
-  pub line : behind_line (drop from bytes) ≡ drop next bytes
-  pub after : from < next
-  pub inside : next ≤ length bytes
+-- how a file reads on, whose clauses so far are cs
+abbrev pub reads_on : Clauses → List Clause → Reading
+reads_on c cs = read_clauses c.header.variables c.header.clauses cs (rows_at c.rest.now c.lines)
 
-abbrev pub ClauseAt : List ℕ → ℕ → ℕ → Bool → List ℤ → Result (ℕ × ℕ) Fault → Type 0
-ClauseAt bytes from v surplus out (Ok p) = ClauseRead bytes from v surplus out p.0 p.1
-ClauseAt bytes from v surplus out (Err f) = clause_from v surplus [] (tokens_left (drop from bytes)) ≡ Err f
+-- a reading that the refusal e says
+abbrev pub Refuses : Reading → Refusal → Type 0
+Refuses r e = (r ≡ refused e.fault e.place) × (e ≡ refusal_at e.fault e.place)
 
--- the next row as a clause
-pub record NextClause (bytes : List ℕ) (from before v : ℕ) (surplus : Bool) (out : List ℤ) (n next line : ℕ) : Type 0 where
-  pub tokens : List Token
-  pub rows : rows_at bytes from before ≡ record { line = line; tokens = tokens } ∷ rows_at bytes next line
-  pub is : clause_from v surplus [] tokens ≡ Ok (take n out)
-  pub few : n ≤ 64
-  pub after : from < next
-  pub low : line ≤ next
-  pub inside : next ≤ length bytes
+-- behind the header of a file no clause is read yet
+abbrev pub ClausesOf : List ℕ → Result Clauses Refusal → Type 0
+ClausesOf text (Ok c) = (reading text ≡ reads_on c []) × (c.count ≡ 0)
+ClausesOf text (Err e) = Refuses (reading text) e
 
-pub record NextFault (bytes : List ℕ) (from before v : ℕ) (surplus : Bool) (f : Fault) (line : ℕ) : Type 0 where
-  pub tokens : List Token
-  pub others : List Row
-  pub rows : rows_at bytes from before ≡ record { line = line; tokens = tokens } ∷ others
-  pub is : clause_from v surplus [] tokens ≡ Err f
+-- one clause is read
+pub record NextClause (before after : Clauses) (c : Clause) : Type 0 where
+  pub is : (cs : List Clause) → length cs ≡ before.count → reads_on before cs ≡ reads_on after (cs ++ c ∷ [])
+  pub within : ClauseOf before.header.variables c
+  pub header : after.header ≡ before.header
+  pub count : after.count ≡ before.count + 1
+  pub shorter : length after.rest.now < length before.rest.now
 
-abbrev pub NextAt : List ℕ → ℕ → ℕ → ℕ → Bool → List ℤ → Next → Type 0
-NextAt bytes from before v surplus out End = rows_at bytes from before ≡ []
-NextAt bytes from before v surplus out (Read n next line) = NextClause bytes from before v surplus out n next line
-NextAt bytes from before v surplus out (Wrong f line) = NextFault bytes from before v surplus f line
+-- the next clause, if one is left
+abbrev pub NextAt : Clauses → Clauses → Result (Option (Bor (List ℤ))) Refusal → Type 0
+NextAt before after (Ok None) = (after ≡ before) × ((cs : List Clause) → reads_on before cs ≡ cond (length cs == before.header.clauses) (formula before.header.variables cs) (refused ClauseCount 0))
+NextAt before after (Ok (Some c)) = NextClause before after c.now
+NextAt before after (Err e) = (cs : List Clause) → length cs ≡ before.count → Refuses (reads_on before cs) e

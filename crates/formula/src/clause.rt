@@ -1,109 +1,105 @@
-//! One clause of a formula file: its literals, then `0`.
-ghost use Rattle.std.specs.Prelude.{◌≡◌, ℕ, ◌<◌, ◌≤◌, length};
-ghost use Rattle.formula.specs.Reading.{offence};
-ghost use Rattle.formula.specs.Cursors.{Closes, ClauseAt, NextAt};
+//! The clauses of a formula file: each a line of its literals, then `0`.
+ghost use Rattle.std.specs.Prelude.{◌≡◌, Ok};
+ghost use Rattle.formula.specs.Reading.{offence, unless};
+ghost use Rattle.formula.specs.Cursors.{Closes, ClauseAt, ClausesOf, NextAt};
 
-use crate::lines::{line_end, seek};
+use crate::clauses::Clauses;
+use crate::header::read_header;
+use crate::lines::seek;
 use crate::variable::has_variable;
 use answers::fault::Fault;
+use answers::refusal::Refusal;
 use text::scan::Scan;
-use text::scanner::scan;
+use text::scanner::{line_end, scan};
 
-/// What comes next in a formula file.
-#[derive(Clone, Copy)]
-pub(crate) enum Next {
-    /// A clause of so many literals; where the line behind it begins; its own line.
-    Clause(usize, usize, usize),
-    /// A fault, and its line.
-    Fault(Fault, usize),
-    End,
-}
-
-// The fault of the literal `l` behind the literals of its clause.
-fn find_offence(literals: &[i32], l: i32, variables: usize, surplus: bool) -> Option<Fault>
-    ensures { result ≡ offence variables surplus literals.now l }
+// Whether the literal `l` may stand behind the literals of its clause.
+fn admit(literals: &[i32], l: i32, variables: usize, surplus: bool) -> Result<(), Fault>
+    ensures { result ≡ unless (offence variables surplus literals.now l) (Ok tt) }
 {
     let variable = l.unsigned_abs();
     if variable as usize > variables {
-        return Some(Fault::VariableAbove);
+        return Err(Fault::VariableAbove);
     }
     if has_variable(literals, variable) {
-        return Some(Fault::VariableTwice);
+        return Err(Fault::VariableTwice);
     }
     if literals.len() >= 64 {
-        return Some(Fault::ManyLiterals);
+        return Err(Fault::ManyLiterals);
     }
     if surplus {
-        Some(Fault::ClauseCount)
+        Err(Fault::ClauseCount)
     } else {
-        None
+        Ok(())
     }
 }
 
-// The 0 behind the literals was read: where the next line begins.
-fn close(bytes: &[u8], from: usize, surplus: bool) -> Result<usize, Fault>
-    requires { from ≤ length bytes.now }
-    ensures { Closes bytes.now from surplus result }
+// The 0 behind the literals was read: what stands behind the line.
+fn close(text: &[u8], surplus: bool) -> Result<&[u8], Fault>
+    ensures { Closes text.now surplus result }
 {
     if surplus {
         return Err(Fault::ClauseCount);
     }
-    match line_end(bytes, from) {
-        Some(next) => Ok(next),
-        None => Err(Fault::Misshapen),
-    }
+    line_end(text).ok_or(Fault::Misshapen)
 }
 
-// The clause that the line goes on with at `from`: how many literals it has, now in the front of
-// `out`, and where the next line begins.
-fn read_clause(
-    bytes: &[u8],
-    from: usize,
+// The clause that the line at the front is, now in the front of `out`, and what stands behind it.
+fn read_clause<'a, 'c>(
+    text: &'a [u8],
     variables: usize,
     surplus: bool,
-    out: &mut [i32; 64],
-) -> Result<(usize, usize), Fault>
-    ensures { ClauseAt bytes.now from variables surplus out.new result }
+    out: &'c mut [i32; 64],
+) -> Result<(&'c [i32], &'a [u8]), Fault>
+    ensures { ClauseAt text.now variables surplus result }
 {
-    let mut at = from;
+    let mut rest = text;
     let mut n = 0;
     loop {
-        let Scan::Number(l, next) = scan(bytes, at) else {
+        let Scan::Number(l, behind) = scan(rest) else {
             return Err(Fault::Misshapen);
         };
-        at = next;
+        rest = behind;
         if l == 0 {
             break;
         }
-        match find_offence(&out[0..n], l, variables, surplus) {
-            Some(fault) => return Err(fault),
-            None => out[n] = l,
-        }
+        admit(&out[..n], l, variables, surplus)?;
+        out[n] = l;
         n += 1;
     }
-    match close(bytes, at, surplus) {
-        Ok(next) => Ok((n, next)),
-        Err(fault) => Err(fault),
-    }
+    let rest = close(rest, surplus)?;
+    Ok((&out[..n], rest))
 }
 
-// What comes next from `from` on, where a line begins that stands behind `before` others.
-pub(crate) fn next_clause(
-    bytes: &[u8],
-    from: usize,
-    before: usize,
-    variables: usize,
-    surplus: bool,
-    out: &mut [i32; 64],
-) -> Next
-    requires { before ≤ from }
-    ensures { NextAt bytes.now from before variables surplus out.new result }
-{
-    let Some((at, line)) = seek(bytes, from, before) else {
-        return Next::End;
-    };
-    match read_clause(bytes, at, variables, surplus, out) {
-        Ok((n, next)) => Next::Clause(n, next, line),
-        Err(fault) => Next::Fault(fault, line),
+impl<'a> Clauses<'a> {
+    /// The clauses of a file: none of them is read yet.
+    pub(crate) fn of(text: &'a [u8]) -> Result<Clauses<'a>, Refusal>
+        ensures { ClausesOf text.now result }
+    {
+        let (row, lines) = seek(text).ok_or(Refusal::at(Fault::Header, 0))?;
+        let (header, rest) = read_header(row).ok_or(Refusal::at(Fault::Header, lines))?;
+        Ok(Clauses {
+            header,
+            rest,
+            lines,
+            count: 0,
+        })
+    }
+
+    /// The next clause, now in the front of `out`.
+    pub(crate) fn next<'c>(&mut self, out: &'c mut [i32; 64]) -> Result<Option<&'c [i32]>, Refusal>
+        ensures { NextAt self.old self.new result }
+    {
+        let Some((row, line)) = seek(self.rest) else {
+            return Ok(None);
+        };
+        let line = self.lines + line;
+        let surplus = self.count >= self.header.clauses;
+        let (clause, rest) = read_clause(row, self.header.variables, surplus, out).map_err(
+            |fault| Refusal::at(fault, line),
+        )?;
+        self.rest = rest;
+        self.lines = line;
+        self.count += 1;
+        Ok(Some(clause))
     }
 }

@@ -2,6 +2,7 @@
 #![tactic(auto)]
 
 mod clause;
+mod clauses;
 pub mod formula;
 mod header;
 mod lines;

@@ -6,10 +6,5 @@ ghost use Rattle.formula.specs.Clauses.{has_variable};
 pub fn has_variable(literals: &[i32], variable: u32) -> bool
     ensures { result ≡ has_variable (pos variable) literals.now }
 {
-    for k in literals {
-        if k.unsigned_abs() == variable {
-            return true;
-        }
-    }
-    false
+    literals.iter().any(|k| k.unsigned_abs() == variable)
 }

@@ -3,12 +3,12 @@ ghost use Rattle.std.specs.Prelude.{◌≡◌, ◌+◌, ◌<◌, ◌≤◌, List
 ghost use Rattle.tables.specs.Filled.{filled, capacity_of, over as written};
 ghost use Rattle.formula.specs.Clauses.{Clause};
 ghost use Rattle.formula.specs.Formulas.{variables_of, literal_slots, span_slots};
-ghost use Rattle.formula.specs.Reading.{reading, formula};
+ghost use Rattle.formula.specs.Cursors.{reads_on};
+ghost use Rattle.formula.specs.Reading.{formula};
 ghost use Rattle.formula.specs.Reads.{Holds};
 ghost use Rattle.formula.specs.Spans.{Ranged, span_at};
-ghost use Rattle.formula.specs.Surveys.{Found};
+ghost use Rattle.formula.specs.Surveys.{Sized};
 
-use crate::clause::{Next, next_clause};
 use crate::formula::Formula;
 use crate::span::Span;
 use crate::survey::Survey;
@@ -46,26 +46,16 @@ impl<'f> Formula<'f> {
     }
 
     // The second pass: the clauses that the survey found go into the tables.
-    pub(crate) fn fill(&mut self, bytes: &[u8], found: Survey)
-        requires found { Found bytes.now found }
-        requires space { (found.literals ≤ capacity_of self.old.literals) × (found.clauses ≤ capacity_of self.old.spans) }
-        ensures { (cs : List Clause) → reading bytes.now ≡ formula found.variables cs → Holds self.old self.new found.variables cs }
+    pub(crate) fn fill(&mut self, found: Survey<'_>)
+        requires found { Sized found }
+        requires space { (found.literals ≤ capacity_of self.old.literals) × (found.clauses.header.clauses ≤ capacity_of self.old.spans) }
+        ensures { (cs : List Clause) → reads_on found.entry.clauses [] ≡ formula found.entry.clauses.header.variables cs → Holds self.old self.new found.entry.clauses.header.variables cs }
     {
-        let mut at = found.at;
-        let mut lines = found.line;
+        let mut clauses = found.clauses;
         let mut out = [0i32; 64];
-        self.start(found.variables);
-        loop {
-            let surplus = self.count() >= found.clauses;
-            match next_clause(bytes, at, lines, found.variables, surplus, &mut out) {
-                Next::Clause(n, next, line) => {
-                    self.add(&out[0..n]);
-                    at = next;
-                    lines = line;
-                }
-                Next::Fault(_, _) => return,
-                Next::End => return,
-            }
+        self.start(clauses.header.variables);
+        while let Ok(Some(clause)) = clauses.next(&mut out) {
+            self.add(clause);
         }
     }
 }

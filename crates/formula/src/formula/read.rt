@@ -10,22 +10,20 @@ use answers::refusal::Refusal;
 
 impl<'f> Formula<'f> {
     /// Reads a formula file in place of what the formula was, or refuses and changes nothing.
+    #[tactic(auto, using(crate::proofs::AllLaws::laws))]
     pub fn read(&mut self, text: &[u8]) -> Result<(), Refusal>
         ensures answer { result ≡ answer_of (read_into self.old text.now) }
         ensures tables { After (read_into self.old text.now) self.old self.new }
         ensures laws { Laws }
     {
-        let found = match survey_file(text) {
-            Ok(found) => found,
-            Err(refusal) => return Err(refusal),
-        };
+        let found = survey_file(text)?;
         if found.literals > self.literals.capacity() {
             return Err(Refusal::at(Fault::NoSpace, 0));
         }
-        if found.clauses > self.spans.capacity() {
+        if found.clauses.header.clauses > self.spans.capacity() {
             return Err(Refusal::at(Fault::NoSpace, 0));
         }
-        self.fill(text, found);
+        self.fill(found);
         Ok(())
     }
 }

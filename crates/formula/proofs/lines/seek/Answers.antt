@@ -1,6 +1,28 @@
-use Rattle.std.proofs.Common.{sym, ◌∙◌}
-use Rattle.formula.proofs.LineRows.{rows_end}
+-- Each line that says nothing is passed over, and the next that does is the row.
+use Rattle.std.proofs.Common.{◌<◌, length, sym, ◌∙◌, arith}
+use Rattle.std.proofs.lemmas.Bool.{eqb-false}
+use Rattle.formula.proofs.LineRows.{line_shorter, passed, stopped}
 use Rattle.formula.proofs.lines.seek.Goals as goal
 
-pub returns : goal.returns
-returns c = sym c.loop-at.invariant.0 ∙ rows_end c.args.bytes.now c.loop-at.at c.loop-at.lines c.loop-at-test.false
+pub returns-in_default : goal.returns-in_default
+returns-in_default c =
+    let rest = c.loop-rest.rest.now in
+    let some : 0 < length rest = omega (arith, eqb-false (length rest) 0 (sym c.loop-rest-test.ensures)) in
+    record {
+      rows = λ n. c.loop-rest.invariant.rows n ∙ stopped rest some c.in_default.ensures.is n c.loop-rest.lines;
+      first = omega arith;
+      few = omega (arith, line_shorter rest some, c.loop-rest.invariant.low);
+    }
+
+pub loop-rest-preserved : goal.loop-rest-preserved
+loop-rest-preserved c =
+    let rest = c.loop-rest.rest.now in
+    let some : 0 < length rest = omega (arith, eqb-false (length rest) 0 (sym c.loop-rest-test.ensures)) in
+    let p = passed rest some c.in-Some.behind.now c.in-Some.ensures.is in
+    record { rows = λ n. c.loop-rest.invariant.rows n ∙ p.1 n c.loop-rest.lines; low = omega (arith, p.0, c.loop-rest.invariant.low) }
+
+pub loop-rest-smaller : goal.loop-rest-smaller
+loop-rest-smaller c =
+    let rest = c.loop-rest.rest.now in
+    let some : 0 < length rest = omega (arith, eqb-false (length rest) 0 (sym c.loop-rest-test.ensures)) in
+    (passed rest some c.in-Some.behind.now c.in-Some.ensures.is).0
