@@ -1,6 +1,5 @@
 -- One token of a clause.
-use Rattle.std.proofs.Common.{◌≡◌, ℕ, zero, suc, ◌<◌, Bool, false, cond, List, [], ◌∷◌, ◌++◌, length, ℤ, pos, negsuc, Some, None, Ok, Err, Option, Result, refl, ap, ◌∙◌, arith}
-use Rattle.std.proofs.lemmas.Bool.Decides.{nat_tests}
+use Rattle.std.proofs.Common.{◌≡◌, ℕ, zero, suc, Bool, false, cond, List, [], ◌∷◌, ◌++◌, ℤ, pos, negsuc, Some, None, Ok, Err, Option, Result, refl, ap, ◌∙◌}
 use Rattle.answers.specs.declared.fault.Fault.{Fault}
 use Rattle.text.specs.Words.{Token}
 use Rattle.text.specs.Words.Token.{number}
@@ -16,16 +15,7 @@ pub not_admitted : {A : Type 0} (x : A) (o : Option Fault) (f : Fault) → ◌�
 not_admitted x (Some g) f e = cc
 not_admitted x None f e = absurd cc
 
-module _ (v : ℕ) (s : Bool) (ls : Clause) (z : ℤ) (ts : List Token) (h : is_zero z ≡ false) where
-  on : clause_from v s ls (number z ∷ ts) ≡ unless (offence v s ls z) (clause_from v s (ls ++ z ∷ []) ts)
-  on = ap (λ b. cond b (closed s ls ts) (unless (offence v s ls z) (clause_from v s (ls ++ z ∷ []) ts))) h
-
-  pub clause_offends : (f : Fault) → offence v s ls z ≡ Some f → clause_from v s ls (number z ∷ ts) ≡ Err f
-  clause_offends f e = on ∙ ap (λ o. unless o (clause_from v s (ls ++ z ∷ []) ts)) e
-
-  pub clause_goes : offence v s ls z ≡ None → clause_from v s ls (number z ∷ ts) ≡ clause_from v s (ls ++ z ∷ []) ts
-  clause_goes e = on ∙ ap (λ o. unless o (clause_from v s (ls ++ z ∷ []) ts)) e
-
--- a literal that does not offend is at most the 64th
-pub no_offence : (v : ℕ) (s : Bool) (ls : Clause) (z : ℤ) → offence v s ls z ≡ None → length ls < 64
-no_offence v s ls z e = grind (arith, nat_tests)
+pub clause_offends : (v : ℕ) (s : Bool) (ls : Clause) (z : ℤ) (ts : List Token) (f : Fault) → is_zero z ≡ false → offence v s ls z ≡ Some f → clause_from v s ls (number z ∷ ts) ≡ Err f
+clause_offends v s ls z ts f h e =
+    let on = clause_from v s (ls ++ z ∷ []) ts in
+    ap (λ b. cond b (closed s ls ts) (unless (offence v s ls z) on)) h ∙ ap (λ o. unless o on) e

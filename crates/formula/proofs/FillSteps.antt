@@ -1,41 +1,23 @@
 -- The tables of a formula, clause by clause.
-use Rattle.std.proofs.Common.{◌≡◌, ℕ, ◌+◌, ◌<◌, ◌≤◌, eqb, List, [], ◌∷◌, ◌++◌, map, length, ℤ, Some, None, Ok, Err, Option, Result, sym, refl, ap, ◌∙◌, subst, append_assoc, zero-add, arith}
+use Rattle.std.proofs.Common.{◌≡◌, ℕ, ◌+◌, ◌<◌, ◌≤◌, List, [], ◌∷◌, ◌++◌, map, length, sym, refl, ap, ◌∙◌, append_assoc, zero-add, arith}
 use Rattle.std.proofs.lemmas.List.{length-append, length_push}
-use denote.Bor.{Bor}
-use Rattle.answers.specs.declared.refusal.Refusal.{Refusal}
 use Rattle.tables.specs.Filled.{filled, over}
 use Rattle.formula.specs.declared.formula.Formula.{Formula}
 use Rattle.formula.specs.declared.clauses.Clauses.{Clauses}
 use Rattle.formula.specs.declared.span.Span.{Span}
 use Rattle.formula.specs.declared.survey.Survey.{Survey}
 use Rattle.formula.specs.Clauses.{Clause, literals_of}
-use Rattle.formula.specs.Spans.{part, Ranged, spans_from}
+use Rattle.formula.specs.Spans.{part, spans_from}
 use Rattle.formula.specs.Formulas.{variables_of, clauses_of, literal_slots, span_slots}
 use Rattle.formula.specs.Reads.{Holds}
-use Rattle.formula.specs.Reading.{formula}
-use Rattle.formula.specs.Cursors.{rows_at, reads_on, NextClause, NextAt}
+use Rattle.formula.specs.Cursors.{rows_at, reads_on, NextClause}
 use Rattle.formula.specs.Surveys.{Sized}
-use Rattle.formula.proofs.Limits.{no_formula, ended, clauses_grow}
-use Rattle.formula.proofs.SpanParts.{ranged_all, literals_more, spans_more, spans_length, parts_spans, over_nothing, over_over, over_keeps}
+use Rattle.formula.proofs.Limits.{clauses_grow}
+use Rattle.formula.proofs.SpanParts.{literals_more, spans_more, spans_length, parts_spans, over_over, over_keeps}
 
 -- spans that lie one behind the other are the clauses
 held : (f : Formula) (cs : List Clause) → filled f.literals ≡ literals_of cs → filled f.spans ≡ spans_from 0 cs → clauses_of f ≡ cs
 held f cs l s = ap (λ ls. map (λ s. part s ls) (filled f.spans)) l ∙ ap (map (λ s. part s (literals_of cs))) s ∙ parts_spans cs
-
--- the tables that were emptied
-pub holds_none : (g h : Formula) (v : ℕ) → variables_of h ≡ v →
-    filled h.literals ≡ [] → literal_slots h ≡ literal_slots g → filled h.spans ≡ [] → span_slots h ≡ span_slots g →
-    h.literals.slots.ghost_name ≡ g.literals.slots.ghost_name → h.spans.slots.ghost_name ≡ g.spans.slots.ghost_name → Holds g h v []
-holds_none g h v e l ls s ss m n = record {
-  variables = e;
-  clauses = held h [] l s;
-  literals = l;
-  spans = s;
-  slots_of_literals = ls ∙ sym (over_nothing (literal_slots g));
-  slots_of_spans = ss ∙ sym (over_nothing (span_slots g));
-  literal_lender = m;
-  span_lender = n;
-}
 
 -- one clause more
 module _ (g f h : Formula) (v : ℕ) (cs : List Clause) (c : Clause) (k : Holds g f v cs) where
@@ -118,11 +100,6 @@ module _ (found : Survey) (left next : Clauses) (g f : Formula) (c : Clause) (z 
       let s : length (span_slots f) ≡ length (span_slots g) = ap length h.slots_of_spans ∙ over_keeps (span_slots g) (spans_from 0 i.clauses) (omega (arith, spans_length 0 i.clauses, met_size.1)) in
       (omega (arith, met_size.0), omega (arith, met_size.1), omega (arith, met_size.1))
 
-  pub met_ranged : Ranged (variables_of f) c
-  met_ranged =
-      let v : left.header.variables ≡ variables_of f = ap (λ h. h.variables) i.header ∙ sym i.holds.variables in
-      subst (λ v. Ranged v c) v (ranged_all left.header.variables c k.within.literals)
-
   pub met_held : (h : Formula) → variables_of h ≡ variables_of f →
       filled h.literals ≡ filled f.literals ++ c → literal_slots h ≡ over (literal_slots f) (length (filled f.literals)) c →
       filled h.spans ≡ filled f.spans ++ record { at = length (filled f.literals); len = length c } ∷ [] → span_slots h ≡ over (span_slots f) (length (filled f.spans)) (record { at = length (filled f.literals); len = length c } ∷ []) →
@@ -135,12 +112,3 @@ module _ (found : Survey) (left next : Clauses) (g f : Formula) (c : Clause) (z 
     many = length_push i.clauses c ∙ ap (λ n. n + 1) i.many ∙ sym k.count;
     holds = holds_more g f h found.clauses.header.variables i.clauses c i.holds (omega (arith, met_size.0)) (omega (arith, met_size.1)) e ls ll ss sl p q;
   }
-
--- it meets no other
-pub met_all : (found : Survey) (left next : Clauses) (g f : Formula) (r : Result (Option (Bor (List ℤ))) Refusal) → Fills found left g f → NextAt left next r → ((c : Bor (List ℤ)) → r ≡ Ok (Some c) → ⊥) → (cs : List Clause) → reads_on found.clauses [] ≡ formula found.clauses.header.variables cs → Holds g f found.clauses.header.variables cs
-met_all found left next g f (Ok None) i k n cs e =
-    let v = found.clauses.header.variables in
-    let d = ended (eqb (length i.clauses) left.header.clauses) left.header.variables i.clauses v cs (sym (k.1 i.clauses) ∙ i.is ∙ e) in
-    subst (Holds g f v) (sym d.2) i.holds
-met_all found left next g f (Ok (Some c)) i k n cs e = absurd (n c refl)
-met_all found left next g f (Err x) i k n cs e = absurd (no_formula x.fault x.place found.clauses.header.variables cs (sym (k i.clauses i.many).0 ∙ i.is ∙ e))

@@ -5,7 +5,6 @@ pub mod FillSteps
 pub mod Limits
 pub mod LineRows
 pub mod Plain
-pub mod ReadSteps
 pub mod Satisfied
 pub mod SpanParts
 pub mod SurveySteps

@@ -18,15 +18,12 @@ fn admit(literals: &[i32], l: i32, variables: usize, surplus: bool) -> Result<()
 {
     let variable = l.unsigned_abs();
     if variable as usize > variables {
-        return Err(Fault::VariableAbove);
-    }
-    if has_variable(literals, variable) {
-        return Err(Fault::VariableTwice);
-    }
-    if literals.len() >= 64 {
-        return Err(Fault::ManyLiterals);
-    }
-    if surplus {
+        Err(Fault::VariableAbove)
+    } else if has_variable(literals, variable) {
+        Err(Fault::VariableTwice)
+    } else if literals.len() >= 64 {
+        Err(Fault::ManyLiterals)
+    } else if surplus {
         Err(Fault::ClauseCount)
     } else {
         Ok(())
@@ -94,9 +91,8 @@ impl<'a> Clauses<'a> {
         };
         let line = self.lines + line;
         let surplus = self.count >= self.header.clauses;
-        let (clause, rest) = read_clause(row, self.header.variables, surplus, out).map_err(
-            |fault| Refusal::at(fault, line),
-        )?;
+        let read = read_clause(row, self.header.variables, surplus, out);
+        let (clause, rest) = read.map_err(|fault| Refusal::at(fault, line))?;
         self.rest = rest;
         self.lines = line;
         self.count += 1;

@@ -23,7 +23,7 @@ fn count(text: &[u8], low: usize, high: usize) -> Option<(usize, &[u8])>
         return None;
     };
     let n = usize::try_from(z).ok()?;
-    if low <= n && n <= high {
+    if (low..=high).contains(&n) {
         Some((n, rest))
     } else {
         None

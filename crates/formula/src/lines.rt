@@ -1,5 +1,5 @@
 //! The lines of a formula file: comments and blank lines are passed over.
-ghost use Rattle.std.specs.Prelude.{◌≡◌, ◌-◌, ◌≤◌, cond, ◌||◌, Some, None, length, IfSome};
+ghost use Rattle.std.specs.Prelude.{◌≡◌, cond, ◌||◌, Some, None};
 ghost use Rattle.std.specs.Option.{option_map};
 ghost use Rattle.text.specs.Fronts.{line_of, behind_line, tokens_left, no_tokens};
 ghost use Rattle.formula.specs.Rows.{comment};
@@ -23,7 +23,7 @@ fn next_line(text: &[u8]) -> &[u8]
 
 // What stands behind the line at the front, if it is blank or a comment.
 fn pass_over(text: &[u8]) -> Option<&[u8]>
-    ensures is { option_map (λ x. x.now) result ≡ cond (comment (line_of text.now) || no_tokens (tokens_left text.now)) (Some (behind_line text.now)) None }
+    ensures { option_map (λ x. x.now) result ≡ cond (comment (line_of text.now) || no_tokens (tokens_left text.now)) (Some (behind_line text.now)) None }
 {
     if is_comment(text) {
         Some(next_line(text))

@@ -9,22 +9,19 @@ ghost use Rattle.formula.specs.Reads.{Holds};
 ghost use Rattle.formula.specs.Spans.{Ranged, span_at};
 ghost use Rattle.formula.specs.Surveys.{Sized};
 
+use crate::clauses::Header;
 use crate::formula::Formula;
 use crate::span::Span;
 use crate::survey::Survey;
 
 impl<'f> Formula<'f> {
-    // Empties the tables, for clauses over the variables 1 to `variables`.
-    fn start(&mut self, variables: usize)
-        requires { (1 ≤ variables) × (variables ≤ 4096) }
-        ensures variables { variables_of self.new ≡ variables }
-        ensures literals { (filled self.new.literals ≡ []) × (literal_slots self.new ≡ literal_slots self.old) }
-        ensures spans { (filled self.new.spans ≡ []) × (span_slots self.new ≡ span_slots self.old) }
-        ensures lenders { (self.new.literals.slots.ghost_name ≡ self.old.literals.slots.ghost_name) × (self.new.spans.slots.ghost_name ≡ self.old.spans.slots.ghost_name) }
+    // Empties the tables, for clauses over the header's variables.
+    fn start(&mut self, header: Header)
+        ensures { Holds self.old self.new header.variables [] }
     {
         self.literals.clear();
         self.spans.clear();
-        self.variables = variables;
+        self.variables = header.variables;
     }
 
     // Puts one more clause behind the others.
@@ -53,7 +50,7 @@ impl<'f> Formula<'f> {
     {
         let mut clauses = found.clauses;
         let mut out = [0i32; 64];
-        self.start(clauses.header.variables);
+        self.start(clauses.header);
         while let Ok(Some(clause)) = clauses.next(&mut out) {
             self.add(clause);
         }

@@ -17,10 +17,9 @@ impl<'f> Formula<'f> {
         ensures laws { Laws }
     {
         let found = survey_file(text)?;
-        if found.literals > self.literals.capacity() {
-            return Err(Refusal::at(Fault::NoSpace, 0));
-        }
-        if found.clauses.header.clauses > self.spans.capacity() {
+        if found.literals > self.literals.capacity()
+            || found.clauses.header.clauses > self.spans.capacity()
+        {
             return Err(Refusal::at(Fault::NoSpace, 0));
         }
         self.fill(found);

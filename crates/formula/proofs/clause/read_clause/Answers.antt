@@ -19,4 +19,4 @@ returns-in_err-admit c =
     let o : offence v s ls l ≡ Some f = ap (offence v s ls) (sym e) ∙ not_admitted tt (offence v s ls (to_z w32 (of_z w32 l))) f c.in_err-admit.ensures in
     let r : c.from_residual.result ≡ Err f = search rules in
     subst (ClauseAt c.args.text.now v s) (sym r)
-    (sym c.loop-l.invariant.is ∙ ap (clause_from v s ls) c.in-Number.ensures.tokens ∙ clause_offends v s ls l (tokens_left c.in-Number.behind.now) z f o)
+    (sym c.loop-l.invariant.is ∙ ap (clause_from v s ls) c.in-Number.ensures.tokens ∙ clause_offends v s ls l (tokens_left c.in-Number.behind.now) f z o)

@@ -9,7 +9,7 @@ returns-in_default c =
     let rest = c.loop-rest.rest.now in
     let some : 0 < length rest = omega (arith, eqb-false (length rest) 0 (sym c.loop-rest-test.ensures)) in
     record {
-      rows = λ n. c.loop-rest.invariant.rows n ∙ stopped rest some c.in_default.ensures.is n c.loop-rest.lines;
+      rows = λ n. c.loop-rest.invariant.rows n ∙ stopped rest some c.in_default.ensures n c.loop-rest.lines;
       first = omega arith;
       few = omega (arith, line_shorter rest some, c.loop-rest.invariant.low);
     }
@@ -18,11 +18,11 @@ pub loop-rest-preserved : goal.loop-rest-preserved
 loop-rest-preserved c =
     let rest = c.loop-rest.rest.now in
     let some : 0 < length rest = omega (arith, eqb-false (length rest) 0 (sym c.loop-rest-test.ensures)) in
-    let p = passed rest some c.in-Some.behind.now c.in-Some.ensures.is in
+    let p = passed rest some c.in-Some.behind.now c.in-Some.ensures in
     record { rows = λ n. c.loop-rest.invariant.rows n ∙ p.1 n c.loop-rest.lines; low = omega (arith, p.0, c.loop-rest.invariant.low) }
 
 pub loop-rest-smaller : goal.loop-rest-smaller
 loop-rest-smaller c =
     let rest = c.loop-rest.rest.now in
     let some : 0 < length rest = omega (arith, eqb-false (length rest) 0 (sym c.loop-rest-test.ensures)) in
-    (passed rest some c.in-Some.behind.now c.in-Some.ensures.is).0
+    (passed rest some c.in-Some.behind.now c.in-Some.ensures).0
