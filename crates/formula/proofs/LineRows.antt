@@ -1,13 +1,13 @@
 -- The rows of a formula file, line by line.
 use Rattle.std.proofs.Common.{◌≡◌, ℕ, ◌+◌, ◌<◌, Bool, true, false, cond, ◌||◌, eqb, List, [], ◌∷◌, length, Some, None, sym, refl, ap, ◌∙◌, inl, inr, arith}
-use Rattle.std.proofs.lemmas.Bool.{cases_Bool, true≢false, false≢true}
+use Rattle.std.proofs.lemmas.Bool.{cases_Bool, true≢false, false≢true, eqb-false}
 use Rattle.text.specs.Words.{Token}
 use Rattle.text.specs.Fronts.{line_of, behind_line, tokens_left, no_tokens}
 use Rattle.text.proofs.Lines.{lines_front}
 use Rattle.formula.specs.Rows.{Row, comment, with_line, rows_behind}
 use Rattle.formula.specs.Cursors.{rows_at}
 
-pub line_shorter : (text : List ℕ) → 0 < length text → length (behind_line text) < length text
+line_shorter : (text : List ℕ) → 0 < length text → length (behind_line text) < length text
 line_shorter [] h = absurd (omega arith)
 line_shorter (c ∷ []) h = elim (cases_Bool (eqb c 10)) [ inl e ↦ simp e (omega arith) | inr e ↦ simp e (omega arith) ]
 line_shorter (c ∷ d ∷ ds) h =
@@ -40,19 +40,25 @@ further n k = omega arith
 abbrev pub row_at : ℕ → List ℕ → List Row
 row_at n text = record { line = n; tokens = tokens_left text } ∷ rows_at (behind_line text) n
 
-module _ (text : List ℕ) (h : 0 < length text) where
+module _ (text : List ℕ) (h : false ≡ eqb (length text) 0) where
+  some : 0 < length text
+  some = omega (arith, eqb-false (length text) 0 (sym h))
+
   abbrev passes : Bool
   passes = comment (line_of text) || no_tokens (tokens_left text)
 
   rows_first : (n : ℕ) → rows_at text n ≡ with_line (n + 1) (comment (line_of text)) (tokens_left text) (rows_at (behind_line text) (n + 1))
-  rows_first n = ap (rows_behind n) (lines_front text h)
+  rows_first n = ap (rows_behind n) (lines_front text some)
 
   -- the line at the front is passed over
   pub passed : (behind : List ℕ) → Some behind ≡ cond passes (Some (behind_line text)) None → (length behind < length text) × ((n k : ℕ) → rows_at text (n + k) ≡ rows_at behind (n + (k + 1)))
   passed behind e =
       let p = some_if passes (behind_line text) behind e in
-      let l = line_shorter text h in
+      let l = line_shorter text some in
       (omega (arith, ap length p.1), λ n k. rows_first (n + k) ∙ silent (n + k + 1) (comment (line_of text)) (tokens_left text) (rows_at (behind_line text) (n + k + 1)) p.0 ∙ ap (λ x. rows_at x (n + k + 1)) (sym p.1) ∙ ap (rows_at behind) (further n k))
+
+  pub behind_shorter : length (behind_line text) < length text
+  behind_shorter = line_shorter text some
 
   -- it is a row
   pub stopped : None ≡ cond passes (Some (behind_line text)) None → (n k : ℕ) → rows_at text (n + k) ≡ row_at (n + (k + 1)) text

@@ -50,6 +50,7 @@ fn read_clause<'a, 'c>(
     ensures { ClauseAt text.now variables surplus result }
 {
     let mut rest = text;
+    // The count stands beside the array: a `Fill` lends its elements no longer than it lives itself.
     let mut n = 0;
     loop {
         let Scan::Number(l, behind) = scan(rest) else {
