@@ -12,7 +12,7 @@ fn keyword<'a>(text: &'a [u8], name: &[u8]) -> Option<&'a [u8]>
     let Scan::Word(word, rest) = scan(text) else {
         return None;
     };
-    if word == name { Some(rest) } else { None }
+    (word == name).then_some(rest)
 }
 
 // The next token as a number from `low` to `high`, and what stands behind it.
@@ -23,11 +23,7 @@ fn count(text: &[u8], low: usize, high: usize) -> Option<(usize, &[u8])>
         return None;
     };
     let n = usize::try_from(z).ok()?;
-    if (low..=high).contains(&n) {
-        Some((n, rest))
-    } else {
-        None
-    }
+    (low..=high).contains(&n).then_some((n, rest))
 }
 
 // The header that the line at the front is, and what stands behind it.

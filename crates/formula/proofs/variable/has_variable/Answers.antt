@@ -14,5 +14,5 @@ has_any v (l ∷ ls) = ap (λ r. eqb (nat_abs l) v || r) (has_any v ls)
 pub returns : goal.returns
 returns c =
     let ls = c.args.literals.now in
-    any_from_yields_List (λ (l : ℤ). eqb (nat_abs l) c.args.variable) _ _ _ c.any.ensures.ran (YieldsList-from_slice ls cc) (λ x b q k. search (rules, tests, to_z-of_z))
+    any_from_yields_List (λ (l : ℤ). eqb (nat_abs l) c.args.variable) _ _ _ c.any.ensures.ran (YieldsList-from_slice ls cc) (λ x b q k. (search rules, search (rules, tests, to_z-of_z)))
     ∙ has_any c.args.variable ls
