@@ -7,3 +7,4 @@ pub mod Cursors
 pub mod Surveys
 pub mod Reads
 pub mod Laws
+pub mod Iters

@@ -6,6 +6,7 @@ ghost use Rattle.formula.specs.Spans.{Inside, Ranged};
 use crate::span::Span;
 use tables::fill::Fill;
 
+pub mod iter;
 mod pass;
 pub mod read;
 pub mod store;
