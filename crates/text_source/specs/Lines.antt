@@ -1,4 +1,4 @@
--- What the parser's functions tell of a text line. Assumes nothing.
+-- What the parser and the cursor tell of a text line. Assumes nothing.
 use Rattle.std.specs.Prelude.{◌≡◌, ℕ, ◌+◌, ◌-◌, ◌≤◌, Bool, List, [], ◌∷◌, length, take, drop, ℤ, Ok, Err, Result}
 use denote.Bor.{Bor}
 use Rattle.answers.specs.declared.fault.Fault.{Fault}

@@ -2,8 +2,8 @@
 ghost use Rattle.std.specs.Prelude.{◌≡◌, ℤ, Option};
 ghost use Rattle.text_source.specs.Parse.{literal, signless};
 
+// A type of numbers that a run has, and which numbers of a text it keeps.
 pub(crate) trait Kept: Copy {
-    // The number, if it may stand in such a run.
     ghost keep: { ℤ → Option Self };
 
     fn kept(z: i32) -> Option<Self>

@@ -34,10 +34,10 @@ impl<'a> TextSource<'a> {
         ensures { Starts self.now result }
     {
         let clean = Refusal::at(Fault::NoItem, 0);
-        let mut rest = self.bytes.get(self.at..).ok_or(clean)?;
         if self.lines > self.at {
             return Err(clean);
         }
+        let mut rest = self.bytes.get(self.at..).ok_or(clean)?;
         let mut lines = self.lines;
         loop {
             match scan(rest) {
