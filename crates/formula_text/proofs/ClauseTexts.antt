@@ -1,14 +1,10 @@
 -- The line of a clause, and the clause of a number. Assumes nothing.
-use Rattle.std.proofs.Common.{◌≡◌, ℕ, List, [], ◌∷◌, ◌++◌, map, ℤ, codes, decimal, sym, refl, ap, ◌∙◌, append_assoc, arith}
+use Rattle.std.proofs.Common.{◌≡◌, ℕ, List, [], ◌∷◌, ◌++◌, map, codes, decimal, sym, refl, ap, ◌∙◌, append_assoc, arith}
 use Rattle.std.specs.Fmt.{signed_decimal}
 use Rattle.std.proofs.lemmas.Fmt.{decimal_digit}
 use Rattle.text.specs.Written.{spaced}
 use Rattle.plain_text.specs.Texts.{literals_text}
 use Rattle.formula.specs.Clauses.{Clause}
-use Rattle.formula.specs.declared.span.Span.{Span}
-use Rattle.formula.specs.Spans.{part}
-use Rattle.formula_text.specs.Texts.{clause_texts}
-use Rattle.std.specs.List.{flat_map}
 use Rattle.formula.specs.Laws.{clause_text}
 
 spaced_more : (w : List ℕ) (ws : List (List ℕ)) (v : List ℕ) → spaced (w ∷ (ws ++ v ∷ [])) ≡ w ++ 32 ∷ spaced (ws ++ v ∷ [])
@@ -26,8 +22,3 @@ pub clause_text_lem : (c : Clause) → clause_text c ≡ literals_text c ++ code
 clause_text_lem c =
     ap (λ (t : List ℕ). t ++ 10 ∷ []) (spaced_literals c (decimal 0) ∙ ap (λ (t : List ℕ). literals_text c ++ t) (decimal_digit 0 (omega arith))) ∙
     append_assoc (literals_text c) (48 ∷ []) (10 ∷ [])
-
--- the lines of the clauses that lie in a table
-pub clause_texts_parts : (ls : List ℤ) (ss : List Span) → clause_texts (map (λ s. part s ls) ss) ≡ flat_map (λ s. clause_text (part s ls)) ss
-clause_texts_parts ls [] = refl
-clause_texts_parts ls (s ∷ ss) = ap (λ t. clause_text (part s ls) ++ t) (clause_texts_parts ls ss)

@@ -44,9 +44,8 @@ impl fmt::Display for Clauses<'_, '_> {
     ghost output = { λ s. Some (clause_texts (clauses_of s.0.now)) };
 
     fn fmt<W: fmt::Write>(&self, f: &mut fmt::Formatter<W>) -> fmt::Result {
-        let literals = self.0.literals();
-        for span in self.0.spans() {
-            let line = ClauseLine(span.of(literals));
+        for clause in self.0.clauses() {
+            let line = ClauseLine(clause);
             write!(f, "{line}")?;
         }
         Ok(())

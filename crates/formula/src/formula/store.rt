@@ -1,7 +1,6 @@
 //! The tables of a formula, and what they hold.
 ghost use Rattle.std.specs.Prelude.{◌≡◌, ◌+◌, ◌≤◌, [], length, IfSome};
 ghost use Rattle.std.specs.Option.{option_map};
-ghost use Rattle.tables.specs.Filled.{filled};
 ghost use Rattle.formula.specs.Spans.{part, Ranged};
 ghost use Rattle.formula.specs.Formulas.{variables_of, clauses_of, literal_slots, span_slots, numbered};
 
@@ -48,19 +47,5 @@ impl<'f> Formula<'f> {
     {
         let span = self.spans.get(number.checked_sub(1)?)?;
         Some(span.of(self.literals.as_slice()))
-    }
-
-    /// The table of literals.
-    pub fn literals(&self) -> &[i32]
-        ensures { result.now ≡ filled self.now.literals }
-    {
-        self.literals.as_slice()
-    }
-
-    /// Where each clause lies among the literals, in their order.
-    pub fn spans(&self) -> &[Span]
-        ensures { result.now ≡ filled self.now.spans }
-    {
-        self.spans.as_slice()
     }
 }

@@ -1,11 +1,11 @@
--- What is written of the clauses so far.
-use Rattle.std.proofs.Common.{take}
-use Rattle.std.specs.List.{flat_map}
+-- What is written of the clauses, and what is to come, are the whole.
+use Rattle.std.proofs.Common.{◌≡◌, ℕ, List, ◌++◌}
 use Rattle.std.specs.Fmt.{HasWritten, IsPlainFormatter}
-use Rattle.formula.specs.Laws.{clause_text}
-use Rattle.formula.specs.Spans.{part}
+use Rattle.formula.specs.Formulas.{clauses_of}
+use Rattle.formula.specs.Iters.{clauses_left}
+use Rattle.formula_text.specs.Texts.{clause_texts}
 use Rattle.formula_text.proofs.describe.ClausesDisplay.fmt.Given as goal
 
-abbrev pub invariant-loop-span : goal.invariant-loop-span
-invariant-loop-span g l =
-    IsPlainFormatter l.initial.f → HasWritten g.W.Write.write_str_gives l.initial.f (flat_map (λ s. clause_text (part s l.literals)) (take l.span-index l.span-items)) l.f
+abbrev pub invariant-loop-clause : goal.invariant-loop-clause
+invariant-loop-clause g l =
+    IsPlainFormatter l.initial.f → (text : List ℕ) × HasWritten g.W.Write.write_str_gives l.initial.f text l.f × (text ++ clause_texts (clauses_left l.clause-iterator) ≡ clause_texts (clauses_of l.self.0.now))
