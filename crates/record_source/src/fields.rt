@@ -1,6 +1,7 @@
 //! Fields at the front of what is left.
-ghost use Rattle.std.specs.Prelude.{ℕ, List, length};
-ghost use Rattle.record_source.specs.Fields.{Got, field, number_field, literal_field, count_field, total_field, in_row};
+ghost use Rattle.std.specs.Prelude.{ℕ, ◌&&◌, List, length, nat_le};
+ghost use Rattle.record_source.specs.declared.flaw.Flaw.TheVariants.{Wrong};
+ghost use Rattle.record_source.specs.Fields.{Got, then, kept, field, limit, number_field, literal_field, count_field, total_field, in_row};
 ghost use Rattle.record_source.specs.Tells.{Read, ReadDigits, ReadRow};
 
 use crate::flaw::Flaw;
@@ -13,6 +14,20 @@ pub(crate) fn front<const N: usize>(rest: &[u8]) -> Result<(&[u8; N], &[u8]), Fl
     ensures { ReadDigits N (field N rest.now) result }
 {
     rest.split_first_chunk().ok_or(Flaw::Cut)
+}
+
+// A number of four bytes, from `least` to the limit.
+#[tactic(auto, using(crate::proofs::Steps::digits_four))]
+fn number(rest: &[u8], least: u32) -> Result<(u32, &[u8]), Flaw>
+    ensures { Read (then (field 4 rest.now) (kept (λ n. nat_le least n && nat_le n limit) Wrong)) result }
+{
+    let (bytes, rest) = front(rest)?;
+    let n = u32::from_be_bytes(*bytes);
+    if (least..=LIMIT).contains(&n) {
+        Ok((n, rest))
+    } else {
+        Err(Flaw::Wrong)
+    }
 }
 
 /// What stands in a field of four bytes.
@@ -29,15 +44,8 @@ pub(crate) trait Field: Copy {
 impl Field for u32 {
     ghost rule = { number_field };
 
-    #[tactic(auto, using(crate::proofs::Steps::digits_four))]
     fn read(rest: &[u8]) -> Result<(u32, &[u8]), Flaw> {
-        let (bytes, rest) = front(rest)?;
-        let n = u32::from_be_bytes(*bytes);
-        if (1..=LIMIT).contains(&n) {
-            Ok((n, rest))
-        } else {
-            Err(Flaw::Wrong)
-        }
+        number(rest, 1)
     }
 }
 
@@ -57,6 +65,7 @@ impl Field for i32 {
     }
 }
 
+// two functions, since no `from_be_bytes` serves both counts of bytes: a shared one would say more
 /// How many literals an addition has.
 pub(crate) fn literal_count(rest: &[u8]) -> Result<(usize, &[u8]), Flaw>
     ensures { Read (count_field 1 64 rest.now) result }
@@ -84,17 +93,10 @@ pub(crate) fn number_count(rest: &[u8]) -> Result<(usize, &[u8]), Flaw>
 }
 
 /// The count of additions in the last record.
-#[tactic(auto, using(crate::proofs::Steps::digits_four))]
 pub(crate) fn addition_count(rest: &[u8]) -> Result<(u32, &[u8]), Flaw>
     ensures { Read (total_field rest.now) result }
 {
-    let (bytes, rest) = front(rest)?;
-    let n = u32::from_be_bytes(*bytes);
-    if n <= LIMIT {
-        Ok((n, rest))
-    } else {
-        Err(Flaw::Wrong)
-    }
+    number(rest, 0)
 }
 
 /// Reads a field into each slot of `out`, and answers what is left behind them.
@@ -102,7 +104,7 @@ pub(crate) fn row<'a, F: Field>(rest: &'a [u8], out: &mut [F]) -> Result<&'a [u8
     ensures { ReadRow (in_row F.rule (length out.old) rest.now) out.new result }
 {
     let mut rest = rest;
-    // by index: what a loop over `iter_mut` writes, no proof knows
+    // by index: what a loop over `iter_mut` writes, a proof does not know
     for i in 0..out.len() {
         (out[i], rest) = F::read(rest)?;
     }
