@@ -72,7 +72,7 @@ pub(crate) fn literal_count(rest: &[u8]) -> Result<(usize, &[u8]), Flaw>
 {
     let ([n], rest) = front::<1>(rest)?;
     if *n <= 64 {
-        Ok((*n as usize, rest))
+        Ok((usize::from(*n), rest))
     } else {
         Err(Flaw::Count)
     }
@@ -86,7 +86,7 @@ pub(crate) fn number_count(rest: &[u8]) -> Result<(usize, &[u8]), Flaw>
     let (bytes, rest) = front(rest)?;
     let n = u16::from_be_bytes(*bytes);
     if n <= 256 {
-        Ok((n as usize, rest))
+        Ok((usize::from(n), rest))
     } else {
         Err(Flaw::Count)
     }
@@ -100,10 +100,9 @@ pub(crate) fn addition_count(rest: &[u8]) -> Result<(u32, &[u8]), Flaw>
 }
 
 /// Reads a field into each slot of `out`, and answers what is left behind them.
-pub(crate) fn row<'a, F: Field>(rest: &'a [u8], out: &mut [F]) -> Result<&'a [u8], Flaw>
+pub(crate) fn row<'a, F: Field>(mut rest: &'a [u8], out: &mut [F]) -> Result<&'a [u8], Flaw>
     ensures { ReadRow (in_row F.rule (length out.old) rest.now) out.new result }
 {
-    let mut rest = rest;
     // by index: what a loop over `iter_mut` writes, a proof does not know
     for i in 0..out.len() {
         (out[i], rest) = F::read(rest)?;
