@@ -7,6 +7,7 @@ ghost use Rattle.sources.specs.Solvers.{items_of, ending_of};
 
 use answers::fault::Fault;
 use answers::refusal::Refusal;
+use source::body::check_space;
 use source::head::Head;
 use source::source::Source;
 
@@ -21,13 +22,13 @@ pub fn look_at<S: Source>(
     ensures literals { literals.new ≡ written (wide literals.old hints.old) (first_literals (items_of (map S.Source.items sources.now) i)) literals.old }
     ensures hints { hints.new ≡ written (wide literals.old hints.old) (first_hints (items_of (map S.Source.items sources.now) i)) hints.old }
 {
-    if i < sources.len() {
-        return sources[i].look(literals, hints);
+    match sources.get(i) {
+        Some(source) => source.look(literals, hints),
+        None => {
+            check_space(literals, hints)?;
+            Err(Refusal::at(Fault::NoItem, 0))
+        }
     }
-    if literals.len() < 64 || hints.len() < 256 {
-        return Err(Refusal::at(Fault::ShortBuffer, 0));
-    }
-    Err(Refusal::at(Fault::NoItem, 0))
 }
 
 /// Drops the first item of the source at `i`; the others stay as they are.
@@ -36,8 +37,10 @@ pub fn step_at<S: Source>(sources: &mut [S], i: usize) -> Result<(), Refusal>
     ensures items { map S.Source.items sources.new ≡ slice_set (map S.Source.items sources.old) i (behind_first (items_of (map S.Source.items sources.old) i)) }
     ensures endings { map S.Source.ending sources.new ≡ map S.Source.ending sources.old }
 {
+    // by index: what is written through `get_mut` a proof does not know
     if i < sources.len() {
-        return sources[i].step();
+        sources[i].step()
+    } else {
+        Err(Refusal::at(Fault::NoItem, 0))
     }
-    Err(Refusal::at(Fault::NoItem, 0))
 }
