@@ -103,7 +103,8 @@ impl fmt::Display for Fault {
             Fault::LineVariableTwice => "a variable stands twice in the line",
             Fault::CountLimit => "a count limit is passed",
             Fault::UnknownHint => "a hint names no clause and no line taken",
-            Fault::HintNotUnit => "the clause of a hint has two literals or more that are not false",
+            Fault::HintNotUnit =>
+                "the clause of a hint has two literals or more that are not false",
             Fault::NoConflict => "the hints end without a conflict",
             Fault::Record => "a record is misshapen, cut or missing",
             Fault::NotAlive => "a deletion names a line that is not alive",

@@ -13,17 +13,15 @@ pub(crate) const LITERAL: i32 = 77;
 
 pub(crate) const SPAN: Span = Span { at: 7, len: 7 };
 
-/// The number, solver, line and hint that a reading over these tables answers: zeros for success.
+/// The number, solver, line and hint by which a reading over these tables refuses, if it does.
 pub(crate) fn answer(
     text: &[u8],
     literals: &mut [i32],
     spans: &mut [Span],
-) -> (u8, usize, usize, usize) {
+) -> Result<(), (u8, usize, usize, usize)> {
     let mut f = Formula::over(literals, spans);
-    match f.read(text) {
-        Ok(()) => (0, 0, 0, 0),
-        Err(e) => (e.fault.number(), e.solver, e.place, e.hint),
-    }
+    f.read(text)
+        .map_err(|e| (e.fault.number(), e.solver, e.place, e.hint))
 }
 
 /// The text is refused so, and every slot of the tables stays.
@@ -37,7 +35,7 @@ pub(crate) fn expect(
     let mut literals = [LITERAL; 80];
     let mut spans = [SPAN; 8];
     let found = answer(text, &mut literals, &mut spans);
-    assert_eq!(rt; found, (number, 0, line, 0), "case {case}");
+    assert_eq!(rt; found, Err((number, 0, line, 0)), "case {case}");
     assert_eq!(rt; literals, [LITERAL; 80], "case {case}");
     assert_eq!(rt; spans, [SPAN; 8], "case {case}");
     Ok(())

@@ -73,16 +73,12 @@ static CLAUSES: [Good; 17] = [
     ),
 ];
 
-// All clauses in order, each by its literals, then 0.
-fn flat(heap: Global, f: &Formula) -> Result<Vec<i32>, Fail> {
+// All clauses in order, each by its literals, then 0; each is the one of its number.
+fn flat(rt: &impl Abort, case: usize, heap: Global, f: &Formula) -> Result<Vec<i32>, Fail> {
     let mut all = Vec::new(heap);
-    for k in 0..f.count() {
-        let Some(clause) = f.clause(k + 1) else {
-            return Err(Fail::new("a clause is missing"));
-        };
-        for l in clause {
-            all.push(*l)?;
-        }
+    for (k, clause) in f.clauses().enumerate() {
+        assert_eq!(rt; f.clause(k.saturating_add(1)), Some(clause), "case {case}");
+        all.extend_from_slice(clause)?;
         all.push(0)?;
     }
     Ok(all)
@@ -102,7 +98,7 @@ pub(crate) fn holds(
     assert!(rt; f.clause(0).is_none(), "case {case}");
     assert!(rt; f.clause(f.count() + 1).is_none(), "case {case}");
     assert!(rt; f.clause(usize::MAX).is_none(), "case {case}");
-    let all = flat(heap, f)?;
+    let all = flat(rt, case, heap, f)?;
     assert_eq!(rt; all.as_slice(), clauses, "case {case}");
     Ok(())
 }

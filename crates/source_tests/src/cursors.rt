@@ -1,8 +1,9 @@
 //! Looks and steps on one source.
-use crate::looks::{HINT, LITERAL, looked, stepped};
+use crate::looks::{CLEAN, HINT, LITERAL, SHORT};
+use answers::fault::Fault;
 use answers::refusal::Refusal;
 use record_source::cursor::RecordSource;
-use source::head::{Head, Mark};
+use source::head::Head;
 use source::marked::{Marked, take_first};
 use source::source::Source;
 use sources::kind::AnySource;
@@ -37,28 +38,41 @@ static ROOMS: [Room; 10] = [
 
 /// What a source answers, look by look: its three items and its ending.
 #[derive(Clone, Copy)]
-struct Row([usize; 5], [usize; 5], [usize; 5], [usize; 5]);
+struct Row {
+    items: [Head; 3],
+    ending: Refusal,
+}
 
-const OF_TEXT: Row = Row(
-    [1, 6, 2, 3, 2],
-    [2, 0, 0, 2, 4],
-    [1, 7, 0, 1, 5],
-    [3, 20, 0, 0, 0],
-);
+const OF_TEXT: Row = Row {
+    items: [
+        Head::Addition(6, 2, 3, 2),
+        Head::Deletion(2, 4),
+        Head::Addition(7, 0, 1, 5),
+    ],
+    ending: CLEAN,
+};
 
-const OF_FAULT: Row = Row(
-    [1, 6, 2, 3, 2],
-    [2, 0, 0, 2, 4],
-    [1, 7, 0, 1, 5],
-    [3, 21, 0, 6, 0],
-);
+const OF_FAULT: Row = Row {
+    items: [
+        Head::Addition(6, 2, 3, 2),
+        Head::Deletion(2, 4),
+        Head::Addition(7, 0, 1, 5),
+    ],
+    ending: Refusal {
+        fault: Fault::MisshapenLine,
+        place: 6,
+        ..CLEAN
+    },
+};
 
-const OF_FILE: Row = Row(
-    [1, 6, 2, 3, 1],
-    [2, 0, 0, 2, 2],
-    [1, 7, 0, 1, 3],
-    [3, 20, 0, 0, 0],
-);
+const OF_FILE: Row = Row {
+    items: [
+        Head::Addition(6, 2, 3, 1),
+        Head::Deletion(2, 2),
+        Head::Addition(7, 0, 1, 3),
+    ],
+    ending: CLEAN,
+};
 
 // What the look at buffers of these lengths answers.
 fn look_in<S: Source>(
@@ -68,10 +82,10 @@ fn look_in<S: Source>(
     hints: &mut [u32; 260],
     a: usize,
     b: usize,
-) -> [usize; 5] {
+) -> Result<Head, Refusal> {
     assert!(rt; a <= 70);
     assert!(rt; b <= 260);
-    looked(source.look(&mut literals[0..a], &mut hints[0..b]))
+    source.look(&mut literals[..a], &mut hints[..b])
 }
 
 fn expect_room<S: Source>(
@@ -79,7 +93,7 @@ fn expect_room<S: Source>(
     case: usize,
     source: &S,
     room: Room,
-    first: [usize; 5],
+    first: Head,
 ) -> Result<(), Fail> {
     let Room(a, b, refused) = room;
     let mut literals = [LITERAL; 70];
@@ -88,9 +102,9 @@ fn expect_room<S: Source>(
     let mut front_hints = [HINT; 260];
     let found = look_in(rt, source, &mut literals, &mut hints, a, b);
     if refused {
-        assert_eq!(rt; found, [3, 7, 0, 0, 0], "room {case}");
+        assert_eq!(rt; found, Err(SHORT), "room {case}");
     } else {
-        assert_eq!(rt; found, first, "room {case}");
+        assert_eq!(rt; found, Ok(first), "room {case}");
         front[0] = 1;
         front[1] = -2;
         front_hints[0] = 3;
@@ -103,7 +117,7 @@ fn expect_room<S: Source>(
 }
 
 // Every look is at the same first item; what lies behind it in the buffers stays.
-fn expect_rooms<S: Source>(rt: &impl Abort, source: &S, first: [usize; 5]) -> Result<(), Fail> {
+fn expect_rooms<S: Source>(rt: &impl Abort, source: &S, first: Head) -> Result<(), Fail> {
     for (i, room) in ROOMS.iter().enumerate() {
         expect_room(rt, i, source, *room, first)?;
     }
@@ -112,20 +126,13 @@ fn expect_rooms<S: Source>(rt: &impl Abort, source: &S, first: [usize; 5]) -> Re
 
 #[test]
 fn rooms(rt: HostRuntime) -> Result<(), Fail> {
-    let Row(of_text, _, _, _) = OF_TEXT;
-    let Row(of_file, _, _, _) = OF_FILE;
+    let [of_text, _, _] = OF_TEXT.items;
+    let [of_file, _, _] = OF_FILE.items;
     expect_rooms(&rt, &TextSource::new(TEXT), of_text)?;
     expect_rooms(&rt, &TextSource::new(TEXT_FAULT), of_text)?;
     expect_rooms(&rt, &RecordSource::new(FILE), of_file)?;
     expect_rooms(&rt, &AnySource::Text(TextSource::new(TEXT)), of_text)?;
     expect_rooms(&rt, &AnySource::Records(RecordSource::new(FILE)), of_file)
-}
-
-fn unmarked(r: Result<(Head, Mark), Refusal>) -> Result<Head, Refusal> {
-    match r {
-        Ok((head, _)) => Ok(head),
-        Err(e) => Err(e),
-    }
 }
 
 fn fetch_short<M: Marked>(
@@ -139,8 +146,8 @@ fn fetch_short<M: Marked>(
     let mut hints = [HINT; 260];
     assert!(rt; a <= 70, "room {case}");
     assert!(rt; b <= 260, "room {case}");
-    let found = unmarked(source.fetch(&mut literals[0..a], &mut hints[0..b]));
-    assert_eq!(rt; looked(found), [3, 7, 0, 0, 0], "room {case}");
+    let found = source.fetch(&mut literals[..a], &mut hints[..b]);
+    assert_eq!(rt; found, Err(SHORT), "room {case}");
     assert_eq!(rt; literals, [LITERAL; 70], "room {case}");
     assert_eq!(rt; hints, [HINT; 260], "room {case}");
     Ok(())
@@ -159,20 +166,8 @@ fn fetches_short(rt: HostRuntime) -> Result<(), Fail> {
 }
 
 // What turn `i` answers: the items, then the ending again and again.
-fn of_turn(row: Row, i: usize) -> [usize; 5] {
-    let Row(first, second, third, ending) = row;
-    match i {
-        0 => first,
-        1 => second,
-        2 => third,
-        _ => ending,
-    }
-}
-
-// What a step answers in turn `i`.
-fn of_step(row: Row, i: usize) -> [usize; 5] {
-    let Row(_, _, _, ending) = row;
-    if i < 3 { [0, 0, 0, 0, 0] } else { ending }
+fn of_turn(row: Row, i: usize) -> Result<Head, Refusal> {
+    row.items.get(i).copied().ok_or(row.ending)
 }
 
 // What buffers hold after a look in turn `i`: the item in front, and what stood there before.
@@ -204,19 +199,12 @@ fn hints_of(i: usize) -> [u32; 256] {
 fn turn<S: Source>(rt: &impl Abort, source: &mut S, row: Row, i: usize) -> Result<(), Fail> {
     let mut literals = [LITERAL; 64];
     let mut hints = [HINT; 256];
-    assert_eq!(rt;
-        looked(source.look(&mut literals, &mut hints)),
-        of_turn(row, i),
-        "turn {i}"
-    );
-    assert_eq!(rt;
-        looked(source.look(&mut literals, &mut hints)),
-        of_turn(row, i),
-        "turn {i}"
-    );
+    let wanted = of_turn(row, i);
+    assert_eq!(rt; source.look(&mut literals, &mut hints), wanted, "turn {i}");
+    assert_eq!(rt; source.look(&mut literals, &mut hints), wanted, "turn {i}");
     assert_eq!(rt; literals, literals_of(i), "turn {i}");
     assert_eq!(rt; hints, hints_of(i), "turn {i}");
-    assert_eq!(rt; stepped(source.step()), of_step(row, i), "turn {i}");
+    assert_eq!(rt; source.step(), wanted.map(|_| ()), "turn {i}");
     Ok(())
 }
 
@@ -250,14 +238,16 @@ fn fetch_turn<M: Marked>(rt: &impl Abort, source: &mut M, row: Row, i: usize) ->
     let mut hints = [HINT; 256];
     let mut by_look = [LITERAL; 64];
     let mut hints_by_look = [HINT; 256];
-    let found = source.look(&mut by_look, &mut hints_by_look);
-    assert_eq!(rt; looked(found), of_turn(row, i), "turn {i}");
-    match source.fetch(&mut literals, &mut hints) {
-        Ok((head, mark)) => {
-            assert_eq!(rt; looked(Ok(head)), of_turn(row, i), "turn {i}");
-            source.pass(mark);
-        }
-        Err(e) => assert_eq!(rt; looked(Err(e)), of_turn(row, i), "turn {i}"),
+    let wanted = of_turn(row, i);
+    assert_eq!(rt;
+        source.look(&mut by_look, &mut hints_by_look),
+        wanted,
+        "turn {i}"
+    );
+    let found = source.fetch(&mut literals, &mut hints);
+    assert_eq!(rt; found.map(|(head, _)| head), wanted, "turn {i}");
+    if let Ok((_, mark)) = found {
+        source.pass(mark);
     }
     assert_eq!(rt; literals, by_look, "turn {i}");
     assert_eq!(rt; hints, hints_by_look, "turn {i}");
@@ -292,7 +282,7 @@ fn take_turn<M: Marked>(rt: &impl Abort, source: &mut M, row: Row, i: usize) -> 
     let mut literals = [LITERAL; 64];
     let mut hints = [HINT; 256];
     let found = take_first(source, &mut literals, &mut hints);
-    assert_eq!(rt; looked(found), of_turn(row, i), "turn {i}");
+    assert_eq!(rt; found, of_turn(row, i), "turn {i}");
     Ok(())
 }
 

@@ -1,5 +1,6 @@
 //! One case: the bytes of a source, and the list of all its items and its ending.
 use record_source::cursor::RecordSource;
+use source::marked::Marked;
 use source_text::list::list;
 use sources::kind::AnySource;
 use std::alloc::Global;
@@ -11,6 +12,20 @@ use text_source::cursor::TextSource;
 #[derive(Clone, Copy)]
 pub(crate) struct Case(pub(crate) &'static [u8], pub(crate) &'static str);
 
+// The source has this list.
+fn expect_list<M: Marked>(
+    rt: &impl Abort,
+    case: usize,
+    heap: Global,
+    source: &mut M,
+    listing: &str,
+) -> Result<(), Fail> {
+    let mut out = String::new(heap);
+    list(&mut out, source)?;
+    assert_eq!(rt; out.as_str(), listing, "case {case}");
+    Ok(())
+}
+
 /// The text has this list, alone and as one of any kind.
 pub(crate) fn expect_text(
     rt: &impl Abort,
@@ -19,13 +34,9 @@ pub(crate) fn expect_text(
     bytes: &[u8],
     listing: &str,
 ) -> Result<(), Fail> {
-    let mut out = String::new(heap);
-    list(&mut out, &mut TextSource::new(bytes))?;
-    assert_eq!(rt; out.as_str(), listing, "case {case}");
-    let mut more = String::new(heap);
-    list(&mut more, &mut AnySource::Text(TextSource::new(bytes)))?;
-    assert_eq!(rt; more.as_str(), listing, "case {case}");
-    Ok(())
+    let text = TextSource::new(bytes);
+    expect_list(rt, case, heap, &mut { text }, listing)?;
+    expect_list(rt, case, heap, &mut AnySource::Text(text), listing)
 }
 
 /// The record file has this list, alone and as one of any kind.
@@ -36,29 +47,34 @@ pub(crate) fn expect_file(
     bytes: &[u8],
     listing: &str,
 ) -> Result<(), Fail> {
-    let mut out = String::new(heap);
-    list(&mut out, &mut RecordSource::new(bytes))?;
-    assert_eq!(rt; out.as_str(), listing, "case {case}");
-    let mut more = String::new(heap);
-    list(&mut more, &mut AnySource::Records(RecordSource::new(bytes)))?;
-    assert_eq!(rt; more.as_str(), listing, "case {case}");
+    let records = RecordSource::new(bytes);
+    expect_list(rt, case, heap, &mut { records }, listing)?;
+    expect_list(rt, case, heap, &mut AnySource::Records(records), listing)
+}
+
+// Each case is as expected; a failure names it, counted from 0.
+fn expect_each<F: Fn(usize, Case) -> Result<(), Fail>>(
+    cases: &[Case],
+    expect: F,
+) -> Result<(), Fail>
+    requires { F.IsAlwaysCallable expect }
+{
+    for (i, case) in cases.iter().enumerate() {
+        expect(i, *case)?;
+    }
     Ok(())
 }
 
-/// Each text has its list; a failure names its case, counted from 0.
+/// Each text has its list.
 pub(crate) fn expect_texts(rt: &impl Abort, heap: Global, cases: &[Case]) -> Result<(), Fail> {
-    for (i, c) in cases.iter().enumerate() {
-        let Case(bytes, listing) = *c;
-        expect_text(rt, i, heap, bytes, listing)?;
-    }
-    Ok(())
+    expect_each(cases, |i, Case(bytes, listing)| {
+        expect_text(rt, i, heap, bytes, listing)
+    })
 }
 
-/// Each record file has its list; a failure names its case, counted from 0.
+/// Each record file has its list.
 pub(crate) fn expect_files(rt: &impl Abort, heap: Global, cases: &[Case]) -> Result<(), Fail> {
-    for (i, c) in cases.iter().enumerate() {
-        let Case(bytes, listing) = *c;
-        expect_file(rt, i, heap, bytes, listing)?;
-    }
-    Ok(())
+    expect_each(cases, |i, Case(bytes, listing)| {
+        expect_file(rt, i, heap, bytes, listing)
+    })
 }

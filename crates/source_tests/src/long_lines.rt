@@ -114,10 +114,8 @@ static DELETED: [Over; 18] = [
 
 /// Writes the numbers from 1 to `n` behind the text, a blank behind each.
 pub(crate) fn push_row(heap: Global, out: &mut String, n: u16) -> Result<(), AllocError> {
-    for k in 0..n {
-        let v = k as u32 + 1;
-        let word = format!(in heap; "{v} ")?;
-        out.push_str(word.as_str())?;
+    for v in 1..=u32::from(n) {
+        write!(out, "{v} ")?;
     }
     Ok(())
 }

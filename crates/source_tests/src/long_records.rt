@@ -48,8 +48,7 @@ fn push_two(out: &mut Vec<u8>, n: u16) -> Result<(), AllocError> {
 
 // Writes the fields of the numbers from 1 to `n`.
 fn push_fields(out: &mut Vec<u8>, n: u16) -> Result<(), AllocError> {
-    for k in 0..n {
-        let v = k as u32 + 1;
+    for v in 1..=u32::from(n) {
         out.extend_from_slice(&v.to_be_bytes())?;
     }
     Ok(())
