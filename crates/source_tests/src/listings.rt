@@ -52,29 +52,21 @@ pub(crate) fn expect_file(
     expect_list(rt, case, heap, &mut AnySource::Records(records), listing)
 }
 
-// Each case is as expected; a failure names it, counted from 0.
-fn expect_each<F: Fn(usize, Case) -> Result<(), Fail>>(
-    cases: &[Case],
-    expect: F,
-) -> Result<(), Fail>
-    requires { F.IsAlwaysCallable expect }
-{
-    for (i, case) in cases.iter().enumerate() {
-        expect(i, *case)?;
+/// Each text has its list; a failure names its case, counted from 0.
+pub(crate) fn expect_texts(rt: &impl Abort, heap: Global, cases: &[Case]) -> Result<(), Fail> {
+    for (i, c) in cases.iter().enumerate() {
+        let Case(bytes, listing) = *c;
+        expect_text(rt, i, heap, bytes, listing)?;
     }
     Ok(())
 }
 
-/// Each text has its list.
-pub(crate) fn expect_texts(rt: &impl Abort, heap: Global, cases: &[Case]) -> Result<(), Fail> {
-    expect_each(cases, |i, Case(bytes, listing)| {
-        expect_text(rt, i, heap, bytes, listing)
-    })
-}
-
-/// Each record file has its list.
+// A loop of its own: a closure for one case, lent `rt`, has no borrow check beside 'static bytes.
+/// Each record file has its list; a failure names its case, counted from 0.
 pub(crate) fn expect_files(rt: &impl Abort, heap: Global, cases: &[Case]) -> Result<(), Fail> {
-    expect_each(cases, |i, Case(bytes, listing)| {
-        expect_file(rt, i, heap, bytes, listing)
-    })
+    for (i, c) in cases.iter().enumerate() {
+        let Case(bytes, listing) = *c;
+        expect_file(rt, i, heap, bytes, listing)?;
+    }
+    Ok(())
 }
