@@ -7,9 +7,9 @@ use Rattle.formula.specs.declared.clauses.Clauses.{Clauses}
 use Rattle.formula.specs.declared.span.Span.{Span}
 use Rattle.formula.specs.declared.survey.Survey.{Survey}
 use Rattle.formula.specs.Clauses.{Clause, literals_of}
-use Rattle.formula.specs.Spans.{part, spans_from}
-use Rattle.formula.specs.Formulas.{variables_of, clauses_of, literal_slots, span_slots}
-use Rattle.formula.specs.Reads.{Holds}
+use Rattle.formula.specs.Spans.{part, span_at, spans_from}
+use Rattle.formula.specs.Formulas.{clauses_of, literal_slots, span_slots}
+use Rattle.formula.specs.Reads.{Added, Holds}
 use Rattle.formula.specs.Cursors.{rows_at, reads_on, NextClause}
 use Rattle.formula.specs.Surveys.{Sized}
 use Rattle.formula.proofs.Limits.{clauses_grow}
@@ -20,42 +20,38 @@ held : (f : Formula) (cs : List Clause) → filled f.literals ≡ literals_of cs
 held f cs l s = ap (λ ls. map (λ s. part s ls) (filled f.spans)) l ∙ ap (map (λ s. part s (literals_of cs))) s ∙ parts_spans cs
 
 -- one clause more
-module _ (g f h : Formula) (v : ℕ) (cs : List Clause) (c : Clause) (k : Holds g f v cs) where
+module _ (g f h : Formula) (v : ℕ) (cs : List Clause) (c : Clause) (k : Holds g f v cs) (a : Added f h c) where
+  more_literals : filled h.literals ≡ literals_of (cs ++ c ∷ [])
+  more_literals = a.literals ∙ ap (λ x. x ++ c) k.literals ∙ sym (literals_more cs c)
+
   abbrev span : Span
-  span = record { at = length (filled f.literals); len = length c }
+  span = span_at (length (filled f.literals)) c
 
-  span_is : span ≡ record { at = 0 + length (literals_of cs); len = length c }
-  span_is =
-      let make : ℕ → Span = λ n. record { at = n; len = length c } in
-      ap make (ap length k.literals ∙ sym (zero-add (length (literals_of cs))))
+  span_is : span ≡ span_at (0 + length (literals_of cs)) c
+  span_is = ap (λ (n : ℕ). span_at n c) (ap length k.literals ∙ sym (zero-add (length (literals_of cs))))
 
-  more_spans : spans_from 0 cs ++ span ∷ [] ≡ spans_from 0 (cs ++ c ∷ [])
-  more_spans = ap (λ s. spans_from 0 cs ++ s ∷ []) span_is ∙ sym (spans_more 0 cs c)
+  more_front : spans_from 0 cs ++ span ∷ [] ≡ spans_from 0 (cs ++ c ∷ [])
+  more_front = ap (λ s. spans_from 0 cs ++ s ∷ []) span_is ∙ sym (spans_more 0 cs c)
 
-  pub holds_more :
-      length (literals_of cs) + length c ≤ length (literal_slots g) → length cs + 1 ≤ length (span_slots g) →
-      variables_of h ≡ variables_of f →
-      filled h.literals ≡ filled f.literals ++ c → literal_slots h ≡ over (literal_slots f) (length (filled f.literals)) c →
-      filled h.spans ≡ filled f.spans ++ span ∷ [] → span_slots h ≡ over (span_slots f) (length (filled f.spans)) (span ∷ []) →
-      h.literals.slots.ghost_name ≡ f.literals.slots.ghost_name → h.spans.slots.ghost_name ≡ f.spans.slots.ghost_name →
-      Holds g h v (cs ++ c ∷ [])
-  holds_more room places e l ls s ss m n =
-      let ls' : filled h.literals ≡ literals_of (cs ++ c ∷ []) = l ∙ ap (λ x. x ++ c) k.literals ∙ sym (literals_more cs c) in
-      let ss' : filled h.spans ≡ spans_from 0 (cs ++ c ∷ []) = s ∙ ap (λ x. x ++ span ∷ []) k.spans ∙ more_spans in
+  more_spans : filled h.spans ≡ spans_from 0 (cs ++ c ∷ [])
+  more_spans = a.spans ∙ ap (λ x. x ++ span ∷ []) k.spans ∙ more_front
+
+  pub holds_more : length (literals_of cs) + length c ≤ length (literal_slots g) → length cs + 1 ≤ length (span_slots g) → Holds g h v (cs ++ c ∷ [])
+  holds_more room places =
       let w : length (spans_from 0 cs) + length (span ∷ []) ≤ length (span_slots g) = omega (arith, spans_length 0 cs) in
       record {
-        variables = e ∙ k.variables;
-        clauses = held h (cs ++ c ∷ []) ls' ss';
-        literals = ls';
-        spans = ss';
+        variables = a.variables ∙ k.variables;
+        clauses = held h (cs ++ c ∷ []) more_literals more_spans;
+        literals = more_literals;
+        spans = more_spans;
         slots_of_literals =
-            ls ∙ ap (λ x. over x (length (filled f.literals)) c) k.slots_of_literals ∙ ap (λ x. over (over (literal_slots g) 0 (literals_of cs)) (length x) c) k.literals
+            a.slots_of_literals ∙ ap (λ x. over x (length (filled f.literals)) c) k.slots_of_literals ∙ ap (λ x. over (over (literal_slots g) 0 (literals_of cs)) (length x) c) k.literals
             ∙ over_over (literal_slots g) (literals_of cs) c room ∙ ap (over (literal_slots g) 0) (sym (literals_more cs c));
         slots_of_spans =
-            ss ∙ ap (λ x. over x (length (filled f.spans)) (span ∷ [])) k.slots_of_spans ∙ ap (λ x. over (over (span_slots g) 0 (spans_from 0 cs)) (length x) (span ∷ [])) k.spans
-            ∙ over_over (span_slots g) (spans_from 0 cs) (span ∷ []) w ∙ ap (over (span_slots g) 0) more_spans;
-        literal_lender = m ∙ k.literal_lender;
-        span_lender = n ∙ k.span_lender;
+            a.slots_of_spans ∙ ap (λ x. over x (length (filled f.spans)) (span ∷ [])) k.slots_of_spans ∙ ap (λ x. over (over (span_slots g) 0 (spans_from 0 cs)) (length x) (span ∷ [])) k.spans
+            ∙ over_over (span_slots g) (spans_from 0 cs) (span ∷ []) w ∙ ap (over (span_slots g) 0) more_front;
+        literal_lender = a.literal_lender ∙ k.literal_lender;
+        span_lender = a.span_lender ∙ k.span_lender;
       }
 
 -- how far the second pass has come
@@ -100,15 +96,11 @@ module _ (found : Survey) (left next : Clauses) (g f : Formula) (c : Clause) (z 
       let s : length (span_slots f) ≡ length (span_slots g) = ap length h.slots_of_spans ∙ over_keeps (span_slots g) (spans_from 0 i.clauses) (omega (arith, spans_length 0 i.clauses, met_size.1)) in
       (omega (arith, met_size.0), omega (arith, met_size.1), omega (arith, met_size.1))
 
-  pub met_held : (h : Formula) → variables_of h ≡ variables_of f →
-      filled h.literals ≡ filled f.literals ++ c → literal_slots h ≡ over (literal_slots f) (length (filled f.literals)) c →
-      filled h.spans ≡ filled f.spans ++ record { at = length (filled f.literals); len = length c } ∷ [] → span_slots h ≡ over (span_slots f) (length (filled f.spans)) (record { at = length (filled f.literals); len = length c } ∷ []) →
-      h.literals.slots.ghost_name ≡ f.literals.slots.ghost_name → h.spans.slots.ghost_name ≡ f.spans.slots.ghost_name →
-      Fills found next g h
-  met_held h e ls ll ss sl p q = record {
+  pub met_held : (h : Formula) → Added f h c → Fills found next g h
+  met_held h a = record {
     clauses = i.clauses ++ c ∷ [];
     header = k.header ∙ i.header;
     is = met_is;
     many = length_push i.clauses c ∙ ap (λ n. n + 1) i.many ∙ sym k.count;
-    holds = holds_more g f h found.clauses.header.variables i.clauses c i.holds (omega (arith, met_size.0)) (omega (arith, met_size.1)) e ls ll ss sl p q;
+    holds = holds_more g f h found.clauses.header.variables i.clauses c i.holds a (omega (arith, met_size.0)) (omega (arith, met_size.1));
   }

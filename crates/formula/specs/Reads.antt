@@ -1,11 +1,11 @@
 -- What reading a formula file answers, and what the tables hold behind it. Assumes nothing.
-use Rattle.std.specs.Prelude.{◌≡◌, ℕ, List, Ok, Err, Result}
+use Rattle.std.specs.Prelude.{◌≡◌, ℕ, List, [], ◌∷◌, ◌++◌, length, Ok, Err, Result}
 use Rattle.answers.specs.declared.refusal.Refusal.{Refusal}
 use Rattle.answers.specs.Refusals.{refusal_at}
 use Rattle.tables.specs.Filled.{filled, capacity_of, over}
 use Rattle.formula.specs.declared.formula.Formula.{Formula}
 use Rattle.formula.specs.Clauses.{Clause, literals_of}
-use Rattle.formula.specs.Spans.{spans_from}
+use Rattle.formula.specs.Spans.{span_at, spans_from}
 use Rattle.formula.specs.Formulas.{variables_of, clauses_of, literal_slots, span_slots}
 use Rattle.formula.specs.Reading.{Reading, formula, refused, fitted, reading}
 
@@ -17,6 +17,16 @@ pub record Holds (g h : Formula) (v : ℕ) (cs : List Clause) : Type 0 where
   pub spans : filled h.spans ≡ spans_from 0 cs
   pub slots_of_literals : literal_slots h ≡ over (literal_slots g) 0 (literals_of cs)
   pub slots_of_spans : span_slots h ≡ over (span_slots g) 0 (spans_from 0 cs)
+  pub literal_lender : h.literals.slots.ghost_name ≡ g.literals.slots.ghost_name
+  pub span_lender : h.spans.slots.ghost_name ≡ g.spans.slots.ghost_name
+
+-- h is g with the clause c behind the others
+pub record Added (g h : Formula) (c : Clause) : Type 0 where
+  pub variables : variables_of h ≡ variables_of g
+  pub literals : filled h.literals ≡ filled g.literals ++ c
+  pub spans : filled h.spans ≡ filled g.spans ++ (span_at (length (filled g.literals)) c ∷ [])
+  pub slots_of_literals : literal_slots h ≡ over (literal_slots g) (length (filled g.literals)) c
+  pub slots_of_spans : span_slots h ≡ over (span_slots g) (length (filled g.spans)) (span_at (length (filled g.literals)) c ∷ [])
   pub literal_lender : h.literals.slots.ghost_name ≡ g.literals.slots.ghost_name
   pub span_lender : h.spans.slots.ghost_name ≡ g.spans.slots.ghost_name
 

@@ -1,12 +1,12 @@
 //! How clauses come into the tables of a formula: the second pass over its file.
-ghost use Rattle.std.specs.Prelude.{◌≡◌, ◌+◌, ◌<◌, ◌≤◌, List, [], ◌∷◌, ◌++◌, length};
-ghost use Rattle.tables.specs.Filled.{filled, capacity_of, over as written};
+ghost use Rattle.std.specs.Prelude.{◌≡◌, ◌+◌, ◌<◌, ◌≤◌, List, [], length};
+ghost use Rattle.tables.specs.Filled.{filled, capacity_of};
 ghost use Rattle.formula.specs.Clauses.{Clause};
-ghost use Rattle.formula.specs.Formulas.{variables_of, literal_slots, span_slots};
+ghost use Rattle.formula.specs.Formulas.{variables_of};
 ghost use Rattle.formula.specs.Cursors.{reads_on};
 ghost use Rattle.formula.specs.Reading.{formula};
-ghost use Rattle.formula.specs.Reads.{Holds};
-ghost use Rattle.formula.specs.Spans.{Ranged, span_at};
+ghost use Rattle.formula.specs.Reads.{Added, Holds};
+ghost use Rattle.formula.specs.Spans.{Ranged};
 ghost use Rattle.formula.specs.Surveys.{Sized};
 
 use crate::clauses::Header;
@@ -29,10 +29,7 @@ impl<'f> Formula<'f> {
         requires ranged { Ranged (variables_of self.old) clause.now }
         requires few { length (filled self.old.spans) < 65536 }
         requires space { (length (filled self.old.literals) + length clause.now ≤ capacity_of self.old.literals) × (length (filled self.old.spans) < capacity_of self.old.spans) }
-        ensures variables { variables_of self.new ≡ variables_of self.old }
-        ensures literals { (filled self.new.literals ≡ filled self.old.literals ++ clause.now) × (literal_slots self.new ≡ written (literal_slots self.old) (length (filled self.old.literals)) clause.now) }
-        ensures spans { (filled self.new.spans ≡ filled self.old.spans ++ (span_at (length (filled self.old.literals)) clause.now ∷ [])) × (span_slots self.new ≡ written (span_slots self.old) (length (filled self.old.spans)) (span_at (length (filled self.old.literals)) clause.now ∷ [])) }
-        ensures lenders { (self.new.literals.slots.ghost_name ≡ self.old.literals.slots.ghost_name) × (self.new.spans.slots.ghost_name ≡ self.old.spans.slots.ghost_name) }
+        ensures { Added self.old self.new clause.now }
     {
         let s = Span {
             at: self.literals.len(),

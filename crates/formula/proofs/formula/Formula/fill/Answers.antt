@@ -9,6 +9,5 @@ add-requires-clause-space c =
 
 pub loop-clause-preserved : goal.loop-clause-preserved
 loop-clause-preserved c =
-    let e = c.add.ensures in
     met_held c.args.found c.loop-clause.clauses c.next.new.self c.args.self.now c.loop-clause.self c.in-Ok-Some.clause.now c.requires.found c.requires.space.0 c.requires.space.1 c.loop-clause.invariant (rw c.in-Ok-Some.field-0-is at c.in-Ok-Some.ensures)
-    c.add.new.self e.variables e.literals.0 e.literals.1 e.spans.0 e.spans.1 e.lenders.0 e.lenders.1
+    c.add.new.self c.add.ensures
