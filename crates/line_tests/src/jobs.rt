@@ -25,12 +25,12 @@ pub(crate) const ENTRY: Entry = Entry {
     head: 3,
 };
 
-/// The number of the verdict, 0 for a line that follows, and the position of the hint.
-pub(crate) fn told(verdict: Result<usize, Failure>) -> (u8, usize) {
-    match verdict {
-        Ok(hint) => (0, hint),
-        Err(failure) => (failure.fault.number(), failure.hint),
-    }
+/// The position of the hint at which the conflict came, or the number of what is wrong and the
+/// position of the hint that tells.
+pub(crate) type Told = Result<usize, (u8, usize)>;
+
+fn told(verdict: Result<usize, Failure>) -> Told {
+    verdict.map_err(|failure| (failure.fault.number(), failure.hint))
 }
 
 /// The verdict on a line against a formula alone, on these bytes.
@@ -39,7 +39,7 @@ pub(crate) fn verdict_on(
     literals: &[i32],
     hints: &[u32],
     bytes: &mut [u8],
-) -> Option<(u8, usize)> {
+) -> Option<Told> {
     let mut table = [0i32; 80];
     let mut spans = [SPAN; 8];
     let mut formula = Formula::over(&mut table, &mut spans);

@@ -1,5 +1,5 @@
 //! Lines at the limits of a file, and beyond them.
-use crate::jobs::verdict_on;
+use crate::jobs::{Told, verdict_on};
 use std::process::Abort;
 use std::test::Fail;
 
@@ -12,30 +12,26 @@ const PAIR: &[u8] = b"p cnf 2 2\n1 0\n-1 0\n";
 
 /// How many of the literals 1, 2 .. the line has, and the verdict with the clause as its hint.
 #[derive(Clone, Copy)]
-struct Literals(usize, u8, usize);
+struct Literals(usize, Told);
 
 static LITERALS: [Literals; 5] = [
-    Literals(64, 0, 1),
-    Literals(65, 0, 1),
-    Literals(100, 0, 1),
-    Literals(63, 28, 1),
-    Literals(62, 27, 1),
+    Literals(64, Ok(1)),
+    Literals(65, Ok(1)),
+    Literals(100, Ok(1)),
+    Literals(63, Err((28, 1))),
+    Literals(62, Err((27, 1))),
 ];
 
 fn expect_literals(rt: &impl Abort, case: usize, c: Literals) -> Result<(), Fail> {
-    let Literals(count, number, hint) = c;
+    let Literals(count, verdict) = c;
     let mut literals = [0i32; 100];
-    let mut next = 1;
-    for l in literals.iter_mut() {
+    for (l, next) in literals.iter_mut().zip(1..=100) {
         *l = next;
-        if next < 100 {
-            next += 1;
-        }
     }
     assert!(rt; count <= 100, "case {case}");
     let mut bytes = [0u8; 200];
     let found = verdict_on(CLAUSE, &literals[0..count], &[1], &mut bytes);
-    assert!(rt; found == Some((number, hint)), "case {case}");
+    assert!(rt; found == Some(verdict), "case {case}");
     Ok(())
 }
 
@@ -49,19 +45,19 @@ fn many_literals(rt: HostRuntime) -> Result<(), Fail> {
 
 /// How many hints to the unit clause come first, whether one to its opposite follows, the verdict.
 #[derive(Clone, Copy)]
-struct Hints(usize, bool, u8, usize);
+struct Hints(usize, bool, Told);
 
 static HINTS: [Hints; 6] = [
-    Hints(255, true, 0, 256),
-    Hints(256, false, 28, 256),
-    Hints(255, false, 28, 255),
-    Hints(0, true, 28, 1),
-    Hints(256, true, 0, 257),
-    Hints(299, true, 0, 300),
+    Hints(255, true, Ok(256)),
+    Hints(256, false, Err((28, 256))),
+    Hints(255, false, Err((28, 255))),
+    Hints(0, true, Err((28, 1))),
+    Hints(256, true, Ok(257)),
+    Hints(299, true, Ok(300)),
 ];
 
 fn expect_hints(rt: &impl Abort, case: usize, c: Hints) -> Result<(), Fail> {
-    let Hints(count, opposite, number, hint) = c;
+    let Hints(count, opposite, verdict) = c;
     assert!(rt; count < 300, "case {case}");
     let mut hints = [1u32; 300];
     let mut end = count;
@@ -71,7 +67,7 @@ fn expect_hints(rt: &impl Abort, case: usize, c: Hints) -> Result<(), Fail> {
     }
     let mut bytes = [0u8; 4];
     let found = verdict_on(PAIR, &[2], &hints[0..end], &mut bytes);
-    assert!(rt; found == Some((number, hint)), "case {case}");
+    assert!(rt; found == Some(verdict), "case {case}");
     Ok(())
 }
 

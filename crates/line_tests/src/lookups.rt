@@ -179,21 +179,9 @@ fn clauses(rt: HostRuntime) -> Result<(), Fail> {
     assert!(rt; lines.store(six));
     assert!(rt; lines.store(five));
     assert!(rt; lines.clause(0).is_none());
-    let Some(first) = lines.clause(1) else {
-        assert!(rt; false);
-        return Ok(());
-    };
-    assert_eq!(rt; first, [1, 2].as_slice());
-    let Some(fifth) = lines.clause(5) else {
-        assert!(rt; false);
-        return Ok(());
-    };
-    assert_eq!(rt; fifth, [-2, -3].as_slice());
-    let Some(sixth) = lines.clause(6) else {
-        assert!(rt; false);
-        return Ok(());
-    };
-    assert_eq!(rt; sixth, [2, -3].as_slice());
+    assert!(rt; lines.clause(1) == Some([1, 2].as_slice()));
+    assert!(rt; lines.clause(5) == Some([-2, -3].as_slice()));
+    assert!(rt; lines.clause(6) == Some([2, -3].as_slice()));
     assert!(rt; lines.clause(7).is_none());
     assert!(rt; lines.kill(6));
     assert!(rt; lines.clause(6).is_none());
