@@ -13,17 +13,6 @@ use answers::fault::Fault;
 use lines::addition::Addition;
 use lines::lines::Lines;
 
-// Makes literals false.
-fn falsify(bytes: &mut [u8], literals: &[i32], variables: usize)
-    requires zero { bytes.old ≡ replicate (2 * variables) 0 }
-    requires ranged { Ranged variables literals.now }
-    ensures { Shows variables bytes.new literals.now }
-{
-    for l in literals {
-        bytes[byte_of(*l)] = 1;
-    }
-}
-
 // Goes through the clauses of hints, each of which names one.
 fn walk(lines: &Lines, hints: &[u32], bytes: &mut [u8]) -> Result<usize, Failure>
     requires { length bytes.old ≡ 2 * variables_in lines.now }
@@ -67,6 +56,8 @@ pub(crate) fn propagate(lines: &Lines, bytes: &mut [u8], line: Addition) -> Resu
     ensures bytes { bytes.new ≡ bytes.old }
 {
     let guard = Blank(bytes);
-    falsify(guard.0, line.literals, lines.variables());
+    for l in line.literals {
+        guard.0[byte_of(*l)] = 1;
+    }
     walk(lines, line.hints, guard.0)
 }
