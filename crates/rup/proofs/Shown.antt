@@ -1,10 +1,12 @@
 -- Bytes that show which literals are false. Assumes nothing.
 use Rattle.std.proofs.Common.{◌≡◌, ℕ, zero, suc, ◌*◌, ◌<◌, ◌≤◌, Bool, true, false, cond, ◌||◌, eqb, leb, List, [], ◌∷◌, ◌++◌, length, get_or, take, set, replicate, ℤ, pos, negsuc, neg_ℤ, sym, refl, ap, ◌∙◌, subst, ⊎_elim, arith}
-use Rattle.std.proofs.lemmas.List.{length-set, length-replicate, get_or-replicate, get_or-set_same, get_or-set_other, length-take-le}
-use Rattle.std.proofs.lemmas.Bool.{cases_Bool, and_parts, and_from, leb-true, eqb-true, eqb-false, eq-eqb}
+use Rattle.std.proofs.lemmas.List.{length-set, get_or-set_same, get_or-set_other, length-take-le}
+use Rattle.std.proofs.lemmas.Bool.{cases_Bool, and_parts, and_from, leb-true, eqb-true, eq-eqb}
+use Rattle.std.specs.Ordering.{int_eq}
+use Rattle.std.proofs.lemmas.Bool.Decides.{Decides-int_eq, not_from_Decides}
 use Rattle.formula.specs.Clauses.{LiteralOf}
 use Rattle.rup.specs.Bytes.{byte_of, all_zero, clean, Shows}
-use Rattle.rup.specs.Propagation.{same, among}
+use Rattle.rup.specs.Propagation.{among}
 
 pub byte_low : (v : ℕ) (l : ℤ) → LiteralOf v l → byte_of l < 2 * v
 byte_low v (pos n) (a, b) = omega arith
@@ -18,18 +20,12 @@ opposite_of v (negsuc n) h = h
 ft : {X : Type 0} → ◌≡◌ {A = Bool} false true → X
 ft e = let z : ◌≡◌ {A = ℕ} 0 1 = cc in absurd (omega arith)
 
-pub same_equal : (l k : ℤ) → same l k ≡ true → l ≡ k
-same_equal (pos m) (pos n) e = ap pos (eqb-true m n e)
-same_equal (pos m) (negsuc n) e = ft e
-same_equal (negsuc m) (pos n) e = ft e
-same_equal (negsuc m) (negsuc n) e = ap negsuc (eqb-true m n e)
-
 -- different literals have different bytes
-apart : (v : ℕ) (l k : ℤ) → LiteralOf v l → LiteralOf v k → same l k ≡ false → byte_of l ≡ byte_of k → ⊥
-apart v (pos m) (pos n) (a, b) (c, d) e q = let z = eqb-false m n e in z (omega arith)
+apart : (v : ℕ) (l k : ℤ) → LiteralOf v l → LiteralOf v k → int_eq l k ≡ false → byte_of l ≡ byte_of k → ⊥
+apart v (pos m) (pos n) (a, b) (c, d) e q = not_from_Decides _ (Decides-int_eq (pos m) (pos n)) e (ap pos (omega arith))
 apart v (pos m) (negsuc n) (a, b) (c, d) e q = omega arith
 apart v (negsuc m) (pos n) (a, b) (c, d) e q = omega arith
-apart v (negsuc m) (negsuc n) (a, b) (c, d) e q = let z = eqb-false m n e in z (omega arith)
+apart v (negsuc m) (negsuc n) (a, b) (c, d) e q = not_from_Decides _ (Decides-int_eq (negsuc m) (negsuc n)) e (ap negsuc (omega arith))
 
 -- one literal more made false
 pub shows_more : (v : ℕ) (bytes : List ℕ) (falses : List ℤ) (l : ℤ) → LiteralOf v l → Shows v bytes falses → Shows v (set bytes (byte_of l) 1) (l ∷ falses)
@@ -38,11 +34,11 @@ shows_more v bytes falses l lit s = record { long = subst (λ (n : ℕ). 2 * v �
     low : byte_of l < length bytes
     low = let a = byte_low v l lit in let b = s.long in omega arith
 
-    by : (k : ℤ) → LiteralOf v k → get_or (set bytes (byte_of l) 1) (byte_of k) 0 ≡ cond (same k l || among k falses) 1 0
+    by : (k : ℤ) → LiteralOf v k → get_or (set bytes (byte_of l) 1) (byte_of k) 0 ≡ cond (int_eq k l || among k falses) 1 0
     by k h =
-        ⊎_elim (λ (y : same k l ≡ true). ap (λ (j : ℤ). get_or (set bytes (byte_of l) 1) (byte_of j) 0) (same_equal k l y) ∙ get_or-set_same bytes (byte_of l) 1 0 low ∙ sym (ap (λ (b : Bool). cond (b || among k falses) 1 0) y))
-        (λ (n : same k l ≡ false). get_or-set_other bytes (byte_of l) (byte_of k) 1 0 (apart v k l h lit n) ∙ s.each k h ∙ sym (ap (λ (b : Bool). cond (b || among k falses) 1 0) n))
-        (cases_Bool (same k l))
+        ⊎_elim (λ (y : int_eq k l ≡ true). ap (λ (j : ℤ). get_or (set bytes (byte_of l) 1) (byte_of j) 0) ((Decides-int_eq k l).0 y) ∙ get_or-set_same bytes (byte_of l) 1 0 low ∙ sym (ap (λ (b : Bool). cond (b || among k falses) 1 0) y))
+        (λ (n : int_eq k l ≡ false). get_or-set_other bytes (byte_of l) (byte_of k) 1 0 (apart v k l h lit n) ∙ s.each k h ∙ sym (ap (λ (b : Bool). cond (b || among k falses) 1 0) n))
+        (cases_Bool (int_eq k l))
 
 -- the order of literals does not matter
 pub shows_as : (v : ℕ) (bytes : List ℕ) (falses gs : List ℤ) → ((k : ℤ) → among k falses ≡ among k gs) → Shows v bytes falses → Shows v bytes gs
@@ -56,16 +52,7 @@ or_swap false false c = refl
 
 pub among_push : (k l : ℤ) (ls : List ℤ) → among k (l ∷ ls) ≡ among k (ls ++ l ∷ [])
 among_push k l [] = refl
-among_push k l (x ∷ xs) = or_swap (same k l) (same k x) (among k xs) ∙ ap (λ (b : Bool). same k x || b) (among_push k l xs)
-
--- no literal is false
-pub shows_none : (v n : ℕ) (bytes : List ℕ) → bytes ≡ replicate n 0 → n ≡ 2 * v → Shows v bytes []
-shows_none v n bytes e is =
-    let w : length bytes ≡ n = ap length e ∙ length-replicate n 0 in
-    record {
-      long = omega arith;
-      each = λ k h. let b = byte_low v k h in ap (λ (bs : List ℕ). get_or bs (byte_of k) 0) e ∙ get_or-replicate n (byte_of k) 0 0 (omega arith);
-    }
+among_push k l (x ∷ xs) = or_swap (int_eq k l) (int_eq k x) (among k xs) ∙ ap (λ (b : Bool). int_eq k x || b) (among_push k l xs)
 
 -- what a byte tells
 pub byte_zero : (b : Bool) (n : ℕ) → n ≡ cond b 1 0 → n ≡ 0 → b ≡ false

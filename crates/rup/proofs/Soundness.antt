@@ -3,6 +3,8 @@ use Rattle.std.proofs.Common.{◌≡◌, ℕ, zero, suc, ◌+◌, Bool, true, fa
 use Rattle.std.specs.List.{slice_get}
 use Rattle.std.specs.Option.{option_map}
 use Rattle.std.specs.Result.{IsOk, is_ok}
+use Rattle.std.specs.Ordering.{int_eq}
+use Rattle.std.proofs.lemmas.Bool.Decides.{Decides-int_eq}
 use Rattle.std.proofs.lemmas.Bool.{not-true, not_from_true, or_cases, or_parts, or_left, or_right, and_parts}
 use Rattle.answers.specs.declared.fault.Fault.TheVariants.{HintNotUnit, LineVariableAbove, LineVariableTwice}
 use Rattle.formula.specs.Clauses.{Clause, Assignment, holds, satisfies_clause, satisfies}
@@ -10,10 +12,9 @@ use Rattle.formula.specs.Formulas.{numbered}
 use Rattle.formula.specs.Laws.{In}
 use Rattle.lines.specs.Held.{Line, or_else, only_if, line_named, literals_of, clause_named, outside}
 use Rattle.rup.specs.Laws.{Satisfies}
-use Rattle.rup.specs.Propagation.{fails, Known, Gathered, gather, among, left, by_left, walk, through, same}
+use Rattle.rup.specs.Propagation.{fails, Known, Gathered, gather, among, left, by_left, walk, through}
 use Rattle.rup.specs.Verdicts.{twice, verdict}
 use Rattle.rup.proofs.Gathers.{first}
-use Rattle.rup.proofs.Shown.{same_equal}
 
 ft : {X : Type 0} → ◌≡◌ {A = Bool} false true → X
 ft e = let z : ◌≡◌ {A = ℕ} 0 1 = cc in absurd (omega arith)
@@ -34,8 +35,8 @@ opposite_false a (negsuc v) e = not-true (a (suc v)) e
 among_false : (a : Assignment) (l : ℤ) (falses : List ℤ) → AllFalse a falses → among l falses ≡ true → holds a l ≡ false
 among_false a l [] h e = ft e
 among_false a l (k ∷ ks) h e =
-    elim (or_cases (same l k) (among l ks) e) [
-      | inl s ↦ ap (holds a) (same_equal l k s) ∙ h.0
+    elim (or_cases (int_eq l k) (among l ks) e) [
+      | inl s ↦ ap (holds a) ((Decides-int_eq l k).0 s) ∙ h.0
       | inr r ↦ among_false a l ks h.1 r
     ]
 

@@ -1,5 +1,7 @@
 -- Unit propagation through the clauses that hints name. Assumes nothing.
-use Rattle.std.specs.Prelude.{ℕ, ◌+◌, Bool, false, cond, ◌||◌, List, [], ◌∷◌, ℤ, pos, negsuc, neg_ℤ, Some, None, Ok, Err, Option, Result, ◌==◌}
+use Rattle.std.specs.Prelude.{ℕ, ◌+◌, Bool, cond, List, [], ◌∷◌, ℤ, neg_ℤ, Some, None, Ok, Err, Option, Result}
+use Rattle.std.specs.List.{list_any}
+use Rattle.std.specs.Ordering.{int_eq}
 use Rattle.answers.specs.declared.fault.Fault.{Fault}
 use Rattle.answers.specs.declared.fault.Fault.TheVariants.{UnknownHint, HintNotUnit, NoConflict}
 use Rattle.formula.specs.Clauses.{Clause}
@@ -39,15 +41,8 @@ abbrev pub unknown_in : Gathered → Option ℕ
 unknown_in (Ok cs) = None
 unknown_in (Err p) = Some p
 
-abbrev pub same : ℤ → ℤ → Bool
-same (pos m) (pos n) = m == n
-same (pos m) (negsuc n) = false
-same (negsuc m) (pos n) = false
-same (negsuc m) (negsuc n) = m == n
-
 abbrev pub among : ℤ → List ℤ → Bool
-among l [] = false
-among l (k ∷ ks) = same l k || among l ks
+among l ks = list_any (int_eq l) ks
 
 -- what is left of a clause when some literals are false
 abbrev pub left : List ℤ → Clause → Clause

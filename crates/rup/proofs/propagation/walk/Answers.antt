@@ -5,7 +5,7 @@ use Rattle.formula.specs.Clauses.{Clause, LiteralOf}
 use Rattle.lines.specs.Tables.{variables_in, named_in}
 use Rattle.rup.specs.Bytes.{byte_of, Shows}
 use Rattle.rup.specs.Propagation.{fails, among, left, by_left, walk}
-use Rattle.rup.proofs.Lefts.{seen, SeenOf, left_take, left_second, left_end, negated}
+use Rattle.rup.proofs.Lefts.{seen, SeenOf, left_skip, left_take, left_first, left_second, left_end, negated}
 use Rattle.rup.proofs.Shown.{byte_zero, byte_set, shows_more, opposite_of}
 use Rattle.rup.proofs.Walks.{walk_at, no_hint, walk_end}
 use Rattle.rup.proofs.propagation.walk.Goals as goal
@@ -15,6 +15,31 @@ told : (v : ℕ) (bytes : List ℕ) (gs : List ℤ) (l : ℤ) (b : ℕ) → Lite
 told v bytes gs l b lit s e =
     let q = ap (λ (k : ℕ). get_or bytes k 0) e ∙ s.each l lit in
     (byte_zero (among l gs) (get_or bytes b 0) q, byte_set (among l gs) (get_or bytes b 0) q)
+
+pub literals-preserved-then-bytes-byte_of-ne0 : goal.literals-preserved-then-bytes-byte_of-ne0
+literals-preserved-then-bytes-byte_of-ne0 c =
+    let v = variables_in c.args.lines.now in
+    let cl = c.in-Some.clause.now in
+    let i = c.literals.l-index in
+    let z = get_or cl i (pos 0) in
+    let e : to_z w32 (of_z w32 z) ≡ z = search (rules, to_z-of_z) in
+    let lit : LiteralOf v z = c.in-Some.ensures.limits i c.literals-test.true in
+    (c.literals.invariant.0, c.literals.invariant.1, λ gs s. left_skip gs cl i z c.literals-test.true refl c.literals.unit (c.literals.invariant.2 gs s) ((told v c.hints.bytes gs z c.byte_of.result lit s (c.byte_of.ensures ∙ ap byte_of e)).1 c.if-bytes-byte_of-ne0.true))
+
+pub literals-preserved : goal.literals-preserved
+literals-preserved c =
+    let v = variables_in c.args.lines.now in
+    let cl = c.in-Some.clause.now in
+    let i = c.literals.l-index in
+    let z = get_or cl i (pos 0) in
+    let e : to_z w32 (of_z w32 z) ≡ z = search (rules, to_z-of_z) in
+    let lit : LiteralOf v z = c.in-Some.ensures.limits i c.literals-test.true in (
+      c.literals.invariant.0,
+      subst (LiteralOf v) (sym e) lit,
+      λ gs s.
+          left_first gs cl i z c.literals.unit c.in-None.is (left_take gs cl i z c.literals-test.true refl c.literals.unit (c.literals.invariant.2 gs s) ((told v c.hints.bytes gs z c.byte_of.result lit s (c.byte_of.ensures ∙ ap byte_of e)).0 c.if-bytes-byte_of-ne0.false))
+          ∙ ap (λ (l : ℤ). l ∷ left gs (drop (i + 1) cl)) (sym e),
+    )
 
 pub hints-preserved : goal.hints-preserved
 hints-preserved c =
