@@ -1,6 +1,6 @@
 -- Lines, which of them are alive, and the clause that a number names. Assumes nothing.
 use Rattle.std.specs.Prelude.{ℕ, suc, ◌+◌, Bool, true, false, cond, ◌&&◌, ◌||◌, List, [], ◌∷◌, map, length, ℤ, Some, None, sum_by, Option, ◌==◌, nat_le, nat_lt, slice_index_or, slice_set, unsigned_abs}
-use Rattle.std.specs.Option.{option_map}
+use Rattle.std.specs.Option.{option_map, option_or}
 use Rattle.std.specs.List.{list_any}
 use Rattle.formula.specs.Clauses.{Clause}
 use Rattle.formula.specs.Formulas.{numbered}
@@ -34,17 +34,13 @@ abbrev pub living : List Held → List Line
 living [] = []
 living (x ∷ xs) = cond x.alive (x.line ∷ living xs) (living xs)
 
-abbrev pub or_else : {X : Type 0} → Option X → Option X → Option X
-or_else (Some x) o = Some x
-or_else None o = o
-
 abbrev pub only_if : {X : Type 0} → Bool → X → Option X
 only_if b x = cond b (Some x) None
 
 -- the line that a number names; of several, the last
 abbrev pub line_named : List Line → ℕ → Option Line
 line_named [] h = None
-line_named (l ∷ ls) h = or_else (line_named ls h) (only_if (l.number == h) l)
+line_named (l ∷ ls) h = option_or (line_named ls h) (only_if (l.number == h) l)
 
 abbrev pub literals_of : Line → Clause
 literals_of l = l.literals
@@ -60,7 +56,7 @@ names h x = x.alive && x.line.number == h
 -- the place, from 0, of the line that a number names
 abbrev pub place_named : List Held → ℕ → Option ℕ
 place_named [] h = None
-place_named (x ∷ xs) h = or_else (option_map suc (place_named xs h)) (only_if (names h x) 0)
+place_named (x ∷ xs) h = option_or (option_map suc (place_named xs h)) (only_if (names h x) 0)
 
 -- the line at a place is dead
 abbrev pub dead_at : Option ℕ → List Held → List Held

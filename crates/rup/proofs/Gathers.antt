@@ -1,12 +1,13 @@
 -- The clauses that hints name. Assumes nothing.
 use Rattle.std.proofs.Common.{◌≡◌, ℕ, zero, suc, ◌+◌, ◌<◌, List, [], ◌∷◌, length, get_or, drop, Some, None, Option, sym, refl, ap, ◌∙◌, le_of_suc-le-suc, arith, Ok, Err}
+use Rattle.std.specs.Result.{result_err}
 use Rattle.formula.specs.Clauses.{Clause}
-use Rattle.rup.specs.Propagation.{Known, Gathered, gathered, gather, unknown_in}
+use Rattle.rup.specs.Propagation.{Known, Gathered, gathered, gather}
 
 -- a hint that names a clause leaves the question to the others
-pub known_one : (o : Option Clause) (c : Clause) (p : ℕ) (g : Gathered) → o ≡ Some c → unknown_in (gathered o p g) ≡ unknown_in g
-known_one o c p (Ok cs) e = ap (λ (x : Option Clause). unknown_in (gathered x p (Ok cs))) e
-known_one o c p (Err q) e = ap (λ (x : Option Clause). unknown_in (gathered x p (Err q))) e
+pub known_one : (o : Option Clause) (c : Clause) (p : ℕ) (g : Gathered) → o ≡ Some c → result_err (gathered o p g) ≡ result_err g
+known_one o c p (Ok cs) e = ap (λ (x : Option Clause). result_err (gathered x p (Ok cs))) e
+known_one o c p (Err q) e = ap (λ (x : Option Clause). result_err (gathered x p (Err q))) e
 
 -- clauses that were gathered, one by one
 pub record First (K : Known) (q h : ℕ) (hs : List ℕ) (cs : List Clause) : Type 0 where

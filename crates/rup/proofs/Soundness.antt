@@ -1,7 +1,7 @@
 -- What satisfies the clauses that hints name satisfies a line that follows by them. Assumes nothing.
 use Rattle.std.proofs.Common.{◌≡◌, ℕ, zero, suc, ◌+◌, Bool, true, false, cond, eqb, leb, List, [], ◌∷◌, length, ℤ, pos, negsuc, neg_ℤ, Some, None, Option, sym, refl, ap, ◌∙◌, subst, inl, inr, arith, Ok, Err}
 use Rattle.std.specs.List.{slice_get}
-use Rattle.std.specs.Option.{option_map}
+use Rattle.std.specs.Option.{option_map, option_or}
 use Rattle.std.specs.Result.{IsOk, is_ok}
 use Rattle.std.specs.Ordering.{int_eq}
 use Rattle.std.proofs.lemmas.Bool.Decides.{Decides-int_eq}
@@ -10,7 +10,7 @@ use Rattle.answers.specs.declared.fault.Fault.TheVariants.{HintNotUnit, LineVari
 use Rattle.formula.specs.Clauses.{Clause, Assignment, holds, satisfies_clause, satisfies}
 use Rattle.formula.specs.Formulas.{numbered}
 use Rattle.formula.specs.Laws.{In}
-use Rattle.lines.specs.Held.{Line, or_else, only_if, line_named, literals_of, clause_named, outside}
+use Rattle.lines.specs.Held.{Line, only_if, line_named, literals_of, clause_named, outside}
 use Rattle.rup.specs.Laws.{Satisfies}
 use Rattle.rup.specs.Propagation.{fails, Known, Gathered, gather, among, left, by_left, walk, through}
 use Rattle.rup.specs.Verdicts.{twice, verdict}
@@ -111,7 +111,7 @@ pub named_in_lem : (ls : List Line) (h : ℕ) (l : Line) → line_named ls h ≡
 named_in_lem [] h l e = let z : ◌≡◌ {A = ℕ} 0 1 = cc in absurd (omega arith)
 named_in_lem (k ∷ ks) h l e = go (named_in_lem ks h l) (line_named ks h) refl (eqb k.number h) e
   where
-    go : (line_named ks h ≡ Some l → In l ks) → (o : Option Line) → line_named ks h ≡ o → (b : Bool) → or_else o (only_if b k) ≡ Some l → In l (k ∷ ks)
+    go : (line_named ks h ≡ Some l → In l ks) → (o : Option Line) → line_named ks h ≡ o → (b : Bool) → option_or o (only_if b k) ≡ Some l → In l (k ∷ ks)
     go ih (Some x) q b e = let z : x ≡ l = cc in inr (ih (q ∙ ap Some z))
     go ih None q true e = let z : k ≡ l = cc in inl (sym z)
     go ih None q false e = let z : ◌≡◌ {A = ℕ} 0 1 = cc in absurd (omega arith)

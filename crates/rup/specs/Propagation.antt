@@ -36,11 +36,6 @@ abbrev pub gather : Known → ℕ → List ℕ → Gathered
 gather K p [] = Ok []
 gather K p (h ∷ hs) = gathered (K h) (p + 1) (gather K (p + 1) hs)
 
--- the first hint that names no clause, if there is one
-abbrev pub unknown_in : Gathered → Option ℕ
-unknown_in (Ok cs) = None
-unknown_in (Err p) = Some p
-
 abbrev pub among : ℤ → List ℤ → Bool
 among l ks = list_any (int_eq l) ks
 
