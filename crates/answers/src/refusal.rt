@@ -5,6 +5,7 @@ ghost use Rattle.answers.specs.Refusals.{refusal_at, refusal_text};
 use crate::fault::Fault;
 use std::fmt;
 
+// Numbers and no Option: a refusal is answered and printed as four numbers.
 /// What is wrong and where: the solver, the place of the item in its file (or the text line of the
 /// formula) and the position of the hint, each counted from 1 and 0 where it has no meaning.
 #[derive(Clone, Copy, PartialEq, Eq, Debug)]

@@ -2,7 +2,7 @@
 use Rattle.std.specs.Prelude.{◌≡◌, ℕ, List, [], ◌∷◌, ◌++◌, length, Ok, Err, Result}
 use Rattle.answers.specs.declared.refusal.Refusal.{Refusal}
 use Rattle.answers.specs.Refusals.{refusal_at}
-use Rattle.tables.specs.Filled.{filled, capacity_of, over}
+use Rattle.tables.specs.Filled.{filled, capacity_of, over, SameLender}
 use Rattle.formula.specs.declared.formula.Formula.{Formula}
 use Rattle.formula.specs.Clauses.{Clause, literals_of}
 use Rattle.formula.specs.Spans.{span_at, spans_from}
@@ -17,8 +17,8 @@ pub record Holds (g h : Formula) (v : ℕ) (cs : List Clause) : Type 0 where
   pub spans : filled h.spans ≡ spans_from 0 cs
   pub slots_of_literals : literal_slots h ≡ over (literal_slots g) 0 (literals_of cs)
   pub slots_of_spans : span_slots h ≡ over (span_slots g) 0 (spans_from 0 cs)
-  pub literal_lender : h.literals.slots.ghost_name ≡ g.literals.slots.ghost_name
-  pub span_lender : h.spans.slots.ghost_name ≡ g.spans.slots.ghost_name
+  pub literal_lender : SameLender g.literals h.literals
+  pub span_lender : SameLender g.spans h.spans
 
 -- h is g with the clause c behind the others
 pub record Added (g h : Formula) (c : Clause) : Type 0 where
@@ -27,8 +27,8 @@ pub record Added (g h : Formula) (c : Clause) : Type 0 where
   pub spans : filled h.spans ≡ filled g.spans ++ (span_at (length (filled g.literals)) c ∷ [])
   pub slots_of_literals : literal_slots h ≡ over (literal_slots g) (length (filled g.literals)) c
   pub slots_of_spans : span_slots h ≡ over (span_slots g) (length (filled g.spans)) (span_at (length (filled g.literals)) c ∷ [])
-  pub literal_lender : h.literals.slots.ghost_name ≡ g.literals.slots.ghost_name
-  pub span_lender : h.spans.slots.ghost_name ≡ g.spans.slots.ghost_name
+  pub literal_lender : SameLender g.literals h.literals
+  pub span_lender : SameLender g.spans h.spans
 
 -- what the bytes say, read into the tables of f
 abbrev pub read_into : Formula → List ℕ → Reading

@@ -11,6 +11,7 @@ mod pass;
 pub mod read;
 pub mod store;
 
+// Runs of one lent table and no `Vec` of clauses: there is no heap.
 /// A formula within the limits: 1 to 4,096 variables, at most 65,536 clauses, each a run of the
 /// table of literals, each literal of one of its variables.
 #[derive(Drop)]

@@ -4,6 +4,7 @@ use formula::span::Span;
 use std::process::Abort;
 use std::test::Fail;
 
+// Numbers and no faults in the tables of cases: they are what the rules give.
 /// A text, the number that refuses it and its line.
 #[derive(Clone, Copy)]
 pub(crate) struct Case(pub(crate) &'static [u8], pub(crate) u8, pub(crate) usize);

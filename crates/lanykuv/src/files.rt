@@ -6,6 +6,7 @@ use std::fs;
 
 /// The bytes of a file, or words that say why there are none.
 pub(crate) fn read(rt: &HostRuntime, path: &str) -> anyhow::Result<Vec<u8>> {
+    // no `map_err`: printing can fail too
     match fs::read(rt, path) {
         Ok(bytes) => Ok(bytes),
         Err(error) => {

@@ -43,9 +43,7 @@ pub(crate) fn verdict_on(
     let mut table = [0i32; 80];
     let mut spans = [SPAN; 8];
     let mut formula = Formula::over(&mut table, &mut spans);
-    if formula.read(text).is_err() {
-        return None;
-    }
+    formula.read(text).ok()?;
     let mut no_literals = [0i32; 1];
     let mut no_hints = [0u32; 1];
     let mut no_entries = [ENTRY; 1];

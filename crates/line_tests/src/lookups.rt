@@ -6,6 +6,8 @@ use lines::lines::Lines;
 use std::process::Abort;
 use std::test::Fail;
 
+// Each test lends its own tables: a helper could not hand out what lies over its own arrays.
+
 /// What is done: a line of a number stored or killed, with the answer, or a number looked for.
 #[derive(Clone, Copy)]
 enum Step {

@@ -1,6 +1,6 @@
 -- What the tables of lines stand for, and what they hold after a line is stored or killed. Assumes nothing.
 use Rattle.std.specs.Prelude.{◌≡◌, ℕ, Bool, true, false, not, ◌&&◌, List, [], ◌∷◌, ◌++◌, map, length, ℤ, Some, None, Option, slice_index, slice_set}
-use Rattle.tables.specs.Filled.{filled, slots_of, capacity_of, over}
+use Rattle.tables.specs.Filled.{filled, slots_of, capacity_of, over, SameLender}
 use Rattle.formula.specs.Clauses.{Clause}
 use Rattle.formula.specs.Formulas.{variables_of, clauses_of}
 use Rattle.lines.specs.declared.addition.Addition.{Addition}
@@ -47,9 +47,9 @@ head_slots t = map head_of (slots_of t.entries)
 -- the same formula, over the same lent slices
 pub record Same (a b : Lines) : Type 0 where
   pub formula : b.formula ≡ a.formula
-  pub literals : b.literals.slots.ghost_name ≡ a.literals.slots.ghost_name
-  pub hints : b.hints.slots.ghost_name ≡ a.hints.slots.ghost_name
-  pub entries : b.entries.slots.ghost_name ≡ a.entries.slots.ghost_name
+  pub literals : SameLender a.literals b.literals
+  pub hints : SameLender a.hints b.hints
+  pub entries : SameLender a.entries b.entries
 
 -- whether a line can be stored: each of its literals is of one of the variables, and there is space
 abbrev pub storable : Lines → Line → Bool

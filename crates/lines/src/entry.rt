@@ -1,6 +1,7 @@
 //! A slot of the table of lines.
 use formula::span::Span;
 
+// `alive` is no Option round the rest: a walk goes on through a dead line's link.
 /// A line: its number, whether it is alive, its runs of the two other tables, and the line before
 /// it in its bucket.
 #[derive(Clone, Copy, PartialEq, Eq, Debug, Default)]

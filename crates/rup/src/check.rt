@@ -1,7 +1,7 @@
 //! The check of a line.
 ghost use Rattle.std.specs.Prelude.{◌≡◌};
 ghost use Rattle.lines.specs.Tables.{variables_in, named_in, line_of};
-ghost use Rattle.rup.specs.Assignments.{bytes_of};
+ghost use Rattle.rup.specs.Assignments.{bytes_of, SameLender};
 ghost use Rattle.rup.specs.Laws.{Laws};
 ghost use Rattle.rup.specs.Verdicts.{verdict, on_clean};
 
@@ -25,7 +25,7 @@ pub fn check(
 ) -> Result<usize, Failure>
     ensures answer { result ≡ on_clean (variables_in lines.now) (bytes_of assignment.old) (verdict (variables_in lines.now) (named_in lines.now) (line_of line.entry)) }
     ensures bytes { bytes_of assignment.new ≡ bytes_of assignment.old }
-    ensures lender { assignment.new.bytes.ghost_name ≡ assignment.old.bytes.ghost_name }
+    ensures lender { SameLender assignment.old assignment.new }
     ensures laws { Laws }
 {
     let variables = lines.variables();

@@ -4,6 +4,7 @@ ghost use Rattle.std.specs.Prelude.{◌≡◌};
 use answers::fault::Fault;
 use answers::refusal::Refusal;
 
+// A hint of 0 and no Option, as in the refusal that it becomes.
 /// What is wrong with the line, and the position, from 1, of the hint that tells, 0 where none does.
 #[derive(Clone, Copy, PartialEq, Eq, Debug)]
 pub struct Failure {

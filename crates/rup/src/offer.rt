@@ -1,7 +1,7 @@
 //! A line that is offered: checked, and stored where it follows and there is space.
 ghost use Rattle.std.specs.Prelude.{◌≡◌};
 ghost use Rattle.lines.specs.Tables.{line_of};
-ghost use Rattle.rup.specs.Assignments.{bytes_of};
+ghost use Rattle.rup.specs.Assignments.{bytes_of, SameLender};
 ghost use Rattle.rup.specs.Offers.{offered, AfterOffer};
 
 use crate::assignment::AssignmentBytes;
@@ -26,7 +26,7 @@ pub fn offer(
     ensures answer { result ≡ offered lines.old (bytes_of assignment.old) solver place next (line_of line.entry) }
     ensures lines { AfterOffer result lines.old lines.new (line_of line.entry) }
     ensures bytes { bytes_of assignment.new ≡ bytes_of assignment.old }
-    ensures lender { assignment.new.bytes.ghost_name ≡ assignment.old.bytes.ghost_name }
+    ensures lender { SameLender assignment.old assignment.new }
 {
     if !assignment.is_clean(lines.variables()) {
         return Err(Failure::at(Fault::AssignmentBytes, 0).refusal(solver, 0));

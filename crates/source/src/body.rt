@@ -10,6 +10,7 @@ use crate::head::Head;
 use answers::fault::Fault;
 use answers::refusal::Refusal;
 
+// Arrays whose counts stand in the head, as a look answers them; there is no heap.
 /// An item's literals, and its hints or deleted numbers, in the fronts of arrays that have space
 /// for any item's. How many there are its head says.
 #[derive(Drop)]

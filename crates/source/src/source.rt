@@ -24,6 +24,7 @@ pub trait Source {
     /// There are not too many items to count.
     ghost few: { (s : Self) → length (items s) < 2 ^ 63 };
 
+    // Two slices and no `Body`: a caller may lend longer ones.
     /// Copies the first item's literals, and its hints or deleted numbers, into the fronts of the
     /// buffers. Refuses by 7 buffers shorter than 64 and 256, and with no item left by the ending;
     /// a refusal writes nothing.

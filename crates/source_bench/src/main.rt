@@ -32,7 +32,8 @@ fn fetch_and_pass(source: &mut TextSource, body: &mut Body) -> Result<Head, Refu
     take_first(source, &mut body.literals, &mut body.numbers)
 }
 
-// Takes item by item to the end; there are fewer items than bytes.
+// Takes item by item to the end. A turn for each byte and no `while let`: that `take` comes to an end
+// nothing says, and there are fewer items than bytes.
 fn sum_of<F: Fn(&mut TextSource, &mut Body) -> Result<Head, Refusal>>(bytes: &[u8], take: F) -> u64
     requires { F.IsAlwaysCallable take }
 {

@@ -27,8 +27,8 @@ fn expect_list<M: Marked>(
 }
 
 /// The text has this list, alone and as one of any kind.
-pub(crate) fn expect_text(
-    rt: &impl Abort,
+pub(crate) fn expect_text<R: Abort>(
+    rt: &R,
     case: usize,
     heap: Global,
     bytes: &[u8],
@@ -40,8 +40,8 @@ pub(crate) fn expect_text(
 }
 
 /// The record file has this list, alone and as one of any kind.
-pub(crate) fn expect_file(
-    rt: &impl Abort,
+pub(crate) fn expect_file<R: Abort>(
+    rt: &R,
     case: usize,
     heap: Global,
     bytes: &[u8],
@@ -52,21 +52,28 @@ pub(crate) fn expect_file(
     expect_list(rt, case, heap, &mut AnySource::Records(records), listing)
 }
 
-/// Each text has its list; a failure names its case, counted from 0.
-pub(crate) fn expect_texts(rt: &impl Abort, heap: Global, cases: &[Case]) -> Result<(), Fail> {
+// Each case is as `expect` has it; a failure names the case, counted from 0.
+fn expect_each<R: Abort, F: Fn(&R, usize, Global, &[u8], &str) -> Result<(), Fail>>(
+    rt: &R,
+    heap: Global,
+    cases: &[Case],
+    expect: F,
+) -> Result<(), Fail>
+    requires { F.IsAlwaysCallable expect }
+{
     for (i, c) in cases.iter().enumerate() {
         let Case(bytes, listing) = *c;
-        expect_text(rt, i, heap, bytes, listing)?;
+        expect(rt, i, heap, bytes, listing)?;
     }
     Ok(())
 }
 
-// A loop of its own: a closure for one case, lent `rt`, has no borrow check beside 'static bytes.
-/// Each record file has its list; a failure names its case, counted from 0.
-pub(crate) fn expect_files(rt: &impl Abort, heap: Global, cases: &[Case]) -> Result<(), Fail> {
-    for (i, c) in cases.iter().enumerate() {
-        let Case(bytes, listing) = *c;
-        expect_file(rt, i, heap, bytes, listing)?;
-    }
-    Ok(())
+/// Each text has its list.
+pub(crate) fn expect_texts<R: Abort>(rt: &R, heap: Global, cases: &[Case]) -> Result<(), Fail> {
+    expect_each(rt, heap, cases, expect_text::<R>)
+}
+
+/// Each record file has its list.
+pub(crate) fn expect_files<R: Abort>(rt: &R, heap: Global, cases: &[Case]) -> Result<(), Fail> {
+    expect_each(rt, heap, cases, expect_file::<R>)
 }

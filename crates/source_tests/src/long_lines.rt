@@ -113,7 +113,7 @@ static DELETED: [Over; 18] = [
 ];
 
 /// Writes the numbers from 1 to `n` behind the text, a blank behind each.
-pub(crate) fn push_row(heap: Global, out: &mut String, n: u16) -> Result<(), AllocError> {
+pub(crate) fn push_row(out: &mut String, n: u16) -> Result<(), AllocError> {
     for v in 1..=u32::from(n) {
         write!(out, "{v} ")?;
     }
@@ -123,9 +123,9 @@ pub(crate) fn push_row(heap: Global, out: &mut String, n: u16) -> Result<(), All
 fn long_text(heap: Global, long: Long) -> Result<String, AllocError> {
     let Long(front, n, middle, m, rest) = long;
     let mut text = String::from_str(heap, front)?;
-    push_row(heap, &mut text, n)?;
+    push_row(&mut text, n)?;
     text.push_str(middle)?;
-    push_row(heap, &mut text, m)?;
+    push_row(&mut text, m)?;
     text.push_str(rest)?;
     Ok(text)
 }

@@ -5,40 +5,40 @@ use std::alloc::{AllocError, Global};
 use std::process::Abort;
 use std::test::Fail;
 
-/// How many literals and hints an addition has, and the number of the ending.
+/// How many literals and hints an addition has, and the number of the fault that ends it.
 #[derive(Clone, Copy)]
-struct Addition(u16, u16, u8);
+struct Addition(u16, u16, Result<(), u8>);
 
-/// How many numbers a deletion has, and the number of the ending.
+/// How many numbers a deletion has, and the number of the fault that ends it.
 #[derive(Clone, Copy)]
-struct Deletion(u16, u8);
+struct Deletion(u16, Result<(), u8>);
 
 static ADDITIONS: [Addition; 14] = [
-    Addition(0, 0, 20),
-    Addition(1, 1, 20),
-    Addition(63, 255, 20),
-    Addition(64, 0, 20),
-    Addition(0, 256, 20),
-    Addition(64, 256, 20),
-    Addition(65, 0, 25),
-    Addition(65, 1, 25),
-    Addition(255, 0, 25),
-    Addition(0, 257, 25),
-    Addition(64, 257, 25),
-    Addition(65, 256, 25),
-    Addition(65, 257, 25),
-    Addition(1, 600, 25),
+    Addition(0, 0, Ok(())),
+    Addition(1, 1, Ok(())),
+    Addition(63, 255, Ok(())),
+    Addition(64, 0, Ok(())),
+    Addition(0, 256, Ok(())),
+    Addition(64, 256, Ok(())),
+    Addition(65, 0, Err(25)),
+    Addition(65, 1, Err(25)),
+    Addition(255, 0, Err(25)),
+    Addition(0, 257, Err(25)),
+    Addition(64, 257, Err(25)),
+    Addition(65, 256, Err(25)),
+    Addition(65, 257, Err(25)),
+    Addition(1, 600, Err(25)),
 ];
 
 static DELETIONS: [Deletion; 8] = [
-    Deletion(0, 20),
-    Deletion(1, 20),
-    Deletion(255, 20),
-    Deletion(256, 20),
-    Deletion(257, 25),
-    Deletion(258, 25),
-    Deletion(512, 25),
-    Deletion(600, 25),
+    Deletion(0, Ok(())),
+    Deletion(1, Ok(())),
+    Deletion(255, Ok(())),
+    Deletion(256, Ok(())),
+    Deletion(257, Err(25)),
+    Deletion(258, Err(25)),
+    Deletion(512, Err(25)),
+    Deletion(600, Err(25)),
 ];
 
 // Writes a field of two bytes.
@@ -77,9 +77,9 @@ fn deletion_file(heap: Global, n: u16) -> Result<Vec<u8>, AllocError> {
 // The list of one addition with the number 7.
 fn addition_list(heap: Global, l: u16, h: u16) -> Result<String, AllocError> {
     let mut out = String::from_str(heap, "place=1 7 ")?;
-    push_row(heap, &mut out, l)?;
+    push_row(&mut out, l)?;
     out.push_str("0 ")?;
-    push_row(heap, &mut out, h)?;
+    push_row(&mut out, h)?;
     out.push_str("0\nending number=20 place=0\n")?;
     Ok(out)
 }
@@ -87,39 +87,41 @@ fn addition_list(heap: Global, l: u16, h: u16) -> Result<String, AllocError> {
 // The list of one deletion.
 fn deletion_list(heap: Global, n: u16) -> Result<String, AllocError> {
     let mut out = String::from_str(heap, "place=1 0 d ")?;
-    push_row(heap, &mut out, n)?;
+    push_row(&mut out, n)?;
     out.push_str("0\nending number=20 place=0\n")?;
     Ok(out)
 }
 
-// The file has this list if the number is 20, and else no item and this ending at place 1.
+// The file has this list, or no item and this fault at place 1.
 fn expect(
     rt: &impl Abort,
     case: usize,
     heap: Global,
     file: &[u8],
     listing: &str,
-    number: u8,
+    wanted: Result<(), u8>,
 ) -> Result<(), Fail> {
-    if number == 20 {
-        return expect_file(rt, case, heap, file, listing);
+    match wanted {
+        Ok(()) => expect_file(rt, case, heap, file, listing),
+        Err(number) => {
+            let ending = format!(in heap; "ending number={number} place=1\n")?;
+            expect_file(rt, case, heap, file, ending.as_str())
+        }
     }
-    let ending = format!(in heap; "ending number={number} place=1\n")?;
-    expect_file(rt, case, heap, file, ending.as_str())
 }
 
 fn expect_addition(rt: &impl Abort, case: usize, heap: Global, c: Addition) -> Result<(), Fail> {
-    let Addition(l, h, number) = c;
+    let Addition(l, h, wanted) = c;
     let file = addition_file(heap, l, h)?;
     let listing = addition_list(heap, l, h)?;
-    expect(rt, case, heap, file.as_slice(), listing.as_str(), number)
+    expect(rt, case, heap, file.as_slice(), listing.as_str(), wanted)
 }
 
 fn expect_deletion(rt: &impl Abort, case: usize, heap: Global, c: Deletion) -> Result<(), Fail> {
-    let Deletion(n, number) = c;
+    let Deletion(n, wanted) = c;
     let file = deletion_file(heap, n)?;
     let listing = deletion_list(heap, n)?;
-    expect(rt, case, heap, file.as_slice(), listing.as_str(), number)
+    expect(rt, case, heap, file.as_slice(), listing.as_str(), wanted)
 }
 
 #[test]

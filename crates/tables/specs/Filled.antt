@@ -1,5 +1,5 @@
 -- What a fill table holds, for every value of its fields. Assumes nothing.
-use Rattle.std.specs.Prelude.{ℕ, ◌+◌, Bool, List, ◌++◌, length, take, drop, nat_le}
+use Rattle.std.specs.Prelude.{◌≡◌, ℕ, ◌+◌, Bool, List, ◌++◌, length, take, drop, nat_le}
 use Rattle.tables.specs.declared.fill.Fill.{Fill}
 
 -- the whole lent slice, the unfilled slots too
@@ -9,6 +9,10 @@ slots_of f = f.slots.now
 -- the elements, in the order in which they came
 abbrev pub filled : {T : Type 0} → Fill T → List T
 filled f = take f.len f.slots.now
+
+-- two tables over the same lent slice, which its lender gets back as the later leaves it
+abbrev pub SameLender : {T : Type 0} → Fill T → Fill T → Type 0
+SameLender a b = b.slots.ghost_name ≡ a.slots.ghost_name
 
 abbrev pub capacity_of : {T : Type 0} → Fill T → ℕ
 capacity_of f = length f.slots.now

@@ -22,6 +22,8 @@ fn is_end(b: u8) -> bool
     is_blank(b) || b == b'\n'
 }
 
+// Here and below a loop and no `position`, which leaves goals that no short answer closes.
+
 // The text without the blanks at its front.
 fn skip_blanks(text: &[u8]) -> &[u8]
     ensures { result.now ≡ unblanked text.now }
@@ -65,14 +67,10 @@ fn digits(text: &[u8], first: u64) -> Option<(u64, &[u8])>
         if !b.is_ascii_digit() || size > LIMIT {
             return None;
         }
-        size = size * 10 + (*b - b'0') as u64;
+        size = size * 10 + u64::from(*b - b'0');
         rest = behind;
     }
-    if size <= LIMIT {
-        Some((size, rest))
-    } else {
-        None
-    }
+    (size <= LIMIT).then_some((size, rest))
 }
 
 // The word at the front as a number without a sign: 0, or digits without a leading zero.
@@ -83,7 +81,7 @@ fn natural(text: &[u8]) -> Option<(u64, &[u8])>
     if !first.is_ascii_digit() {
         return None;
     }
-    let (n, rest) = digits(behind, (*first - b'0') as u64)?;
+    let (n, rest) = digits(behind, u64::from(*first - b'0'))?;
     if *first == b'0' && rest.len() < behind.len() {
         None
     } else {

@@ -8,6 +8,7 @@ use crate::entry::Row;
 use crate::heads::head_at;
 use crate::lines::Lines;
 
+// Buckets by hand and no map of the library: there is no heap.
 // The bucket, of `size`, of a number behind `o` clauses. Numbers mostly come close behind o, so the
 // division is rare.
 pub(crate) fn bucket(o: usize, size: usize, number: u32) -> usize

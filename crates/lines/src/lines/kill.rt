@@ -13,6 +13,7 @@ impl<'b, 'f, 't> Lines<'b, 'f, 't> {
         ensures answer { result ≡ is_some (place_named (held_in self.old) number) }
         ensures after { AfterKill (place_named (held_in self.old) number) self.old self.new }
     {
+        // false and no `?`: whether there was one
         let Some(t) = self.find(number) else {
             return false;
         };

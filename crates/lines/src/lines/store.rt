@@ -1,6 +1,6 @@
 //! One more line.
 ghost use Rattle.std.specs.Prelude.{◌≡◌, ◌+◌, ◌<◌, ◌≤◌, true, false, [], ◌∷◌, ◌++◌, map, length, slice_index, slice_set};
-ghost use Rattle.tables.specs.Filled.{filled, slots_of, capacity_of, over};
+ghost use Rattle.tables.specs.Filled.{filled, slots_of, capacity_of, over, SameLender};
 ghost use Rattle.formula.specs.Spans.{Ranged};
 ghost use Rattle.lines.specs.Rows.{row_of, rows_of, heads_of};
 ghost use Rattle.lines.specs.Tables.{variables_in, line_of, storable, Stored, AfterStore};
@@ -14,13 +14,14 @@ use crate::range::is_outside;
 use formula::span::Span;
 use tables::fill::Fill;
 
-// Puts elements behind the others, for which there is space: the run that they are.
+// Puts elements behind the others, for which there is space: the run that they are. A public one, for
+// `Formula::add` too, would answer an Option of which both know that it is Some.
 fn put<T: Copy>(table: &mut Fill<T>, xs: &[T]) -> Span
     requires { length (filled table.old) + length xs.now ≤ capacity_of table.old }
     ensures run { result ≡ record { at = length (filled table.old); len = length xs.now } }
     ensures list { filled table.new ≡ filled table.old ++ xs.now }
     ensures slots { slots_of table.new ≡ over (slots_of table.old) (length (filled table.old)) xs.now }
-    ensures lender { table.new.slots.ghost_name ≡ table.old.slots.ghost_name }
+    ensures lender { SameLender table.old table.new }
 {
     let run = Span {
         at: table.len(),
@@ -36,7 +37,7 @@ fn insert(entries: &mut Fill<Entry>, b: usize, number: u32, literals: Span, hint
     ensures rows { rows_of entries.new ≡ rows_of entries.old ++ (record { number = number; alive = true; literals = literals; hints = hints; link = slice_index (heads_of entries.old) b } ∷ []) }
     ensures slots { map row_of (slots_of entries.new) ≡ slice_set (map row_of (slots_of entries.old)) (length (filled entries.old)) (record { number = number; alive = true; literals = literals; hints = hints; link = slice_index (heads_of entries.old) b }) }
     ensures heads { heads_of entries.new ≡ slice_set (heads_of entries.old) b (length (filled entries.old)) }
-    ensures lender { entries.new.slots.ghost_name ≡ entries.old.slots.ghost_name }
+    ensures lender { SameLender entries.old entries.new }
 {
     let t = entries.len();
     let row = Row {

@@ -1,7 +1,7 @@
 //! What can be done with a fill table. Every call is total; one that refuses writes nothing.
 ghost use Rattle.std.specs.Prelude.{◌≡◌, ◌-◌, [], ◌∷◌, ◌++◌, length, set as put, if◌then◌else◌, nat_lt};
 ghost use Rattle.std.specs.List.{slice_get};
-ghost use Rattle.tables.specs.Filled.{slots_of, filled, capacity_of, fits, over};
+ghost use Rattle.tables.specs.Filled.{slots_of, filled, capacity_of, fits, over, SameLender};
 
 use crate::fill::Fill;
 
@@ -56,8 +56,9 @@ impl<'a, T: Copy> Fill<'a, T> {
         ensures answer { result ≡ nat_lt i (length (filled self.old)) }
         ensures list { filled self.new ≡ put (filled self.old) i x }
         ensures slots { slots_of self.new ≡ (if result then put (slots_of self.old) i x else slots_of self.old) }
-        ensures lender { self.new.slots.ghost_name ≡ self.old.slots.ghost_name }
+        ensures lender { SameLender self.old self.new }
     {
+        // by index: what is written through `get_mut` a proof does not know
         if i < self.len() {
             self.slots[i] = x;
             true
@@ -79,7 +80,7 @@ impl<'a, T: Copy> Fill<'a, T> {
         ensures answer { result ≡ nat_lt i (capacity_of self.old) }
         ensures list { filled self.new ≡ put (filled self.old) i x }
         ensures slots { slots_of self.new ≡ put (slots_of self.old) i x }
-        ensures lender { self.new.slots.ghost_name ≡ self.old.slots.ghost_name }
+        ensures lender { SameLender self.old self.new }
     {
         if i < self.slots.len() {
             self.slots[i] = x;
@@ -95,7 +96,7 @@ impl<'a, T: Copy> Fill<'a, T> {
         ensures answer { result ≡ fits self.old 1 }
         ensures list { filled self.new ≡ (if result then filled self.old ++ (x ∷ []) else filled self.old) }
         ensures slots { slots_of self.new ≡ (if result then over (slots_of self.old) (length (filled self.old)) (x ∷ []) else slots_of self.old) }
-        ensures lender { self.new.slots.ghost_name ≡ self.old.slots.ghost_name }
+        ensures lender { SameLender self.old self.new }
     {
         if self.len < self.slots.len() {
             self.slots[self.len] = x;
@@ -111,7 +112,7 @@ impl<'a, T: Copy> Fill<'a, T> {
         ensures answer { result ≡ fits self.old (length xs.now) }
         ensures list { filled self.new ≡ (if result then filled self.old ++ xs.now else filled self.old) }
         ensures slots { slots_of self.new ≡ (if result then over (slots_of self.old) (length (filled self.old)) xs.now else slots_of self.old) }
-        ensures lender { self.new.slots.ghost_name ≡ self.old.slots.ghost_name }
+        ensures lender { SameLender self.old self.new }
     {
         if self.space() < xs.len() {
             return false;
@@ -127,7 +128,7 @@ impl<'a, T: Copy> Fill<'a, T> {
     pub fn clear(&mut self)
         ensures list { filled self.new ≡ [] }
         ensures slots { slots_of self.new ≡ slots_of self.old }
-        ensures lender { self.new.slots.ghost_name ≡ self.old.slots.ghost_name }
+        ensures lender { SameLender self.old self.new }
     {
         self.len = 0;
     }

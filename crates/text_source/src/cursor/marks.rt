@@ -7,6 +7,8 @@ use source::body::{Body, check_space};
 use source::head::{Head, Mark};
 use source::marked::Marked;
 
+// These lines and those of `look` and `step` stand in the record source too: a trait of both would
+// have to say in words of its own what `next_line` tells.
 impl Marked for TextSource<'_> {
     ghost leads = { LeadsOn };
 
