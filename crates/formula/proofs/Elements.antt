@@ -1,8 +1,8 @@
 -- What holds of each element of a longer list, and the element at a place. Assumes nothing.
-use Rattle.std.proofs.Common.{◌≡◌, ℕ, zero, suc, ◌+◌, ◌<◌, ◌≤◌, Bool, cond, leb, List, [], ◌∷◌, ◌++◌, map, length, get_or, Some, sym, refl, ◌∙◌, subst, ⊎_elim, arith}
+use Rattle.std.proofs.Common.{◌≡◌, ℕ, zero, suc, ◌+◌, ◌<◌, ◌≤◌, Bool, cond, leb, List, [], ◌∷◌, ◌++◌, length, get_or, Some, sym, refl, ◌∙◌, subst, ⊎_elim, arith}
 use Rattle.std.specs.List.{slice_get}
-use Rattle.std.specs.Option.{option_map}
 use Rattle.std.proofs.lemmas.List.{get_or_append_left, get_or_push, length_push}
+use Rattle.std.proofs.lemmas.Option.{get_or_from_slice_get, slice_get_within}
 use Rattle.std.proofs.lemmas.Bool.{cases_lt, cond-true, le-leb}
 
 module _ {X : Type 0} (d : X) (es : List X) (x : X) where
@@ -28,14 +28,7 @@ both d P (x ∷ xs) ys a b (suc k) h = both d P xs ys (λ j q. a (suc j) (omega 
 
 -- what holds of each element holds of the one at a place
 pub each_nth : {X : Type 0} (d : X) (P : X → Type 0) (xs : List X) (k : ℕ) (x : X) → slice_get xs k ≡ Some x → ((j : ℕ) → j < length xs → P (get_or xs j d)) → P x
-each_nth d P [] k x e h = let z : ◌≡◌ {A = ℕ} 0 1 = cc in absurd (omega arith)
-each_nth d P (y ∷ ys) zero x e h = let w : y ≡ x = cc in subst P w (h 0 (omega arith))
-each_nth d P (y ∷ ys) (suc k) x e h = each_nth d P ys k x e (λ j q. h (suc j) (omega arith))
-
-pub nth_map : {X Y : Type 0} (f : X → Y) (xs : List X) (k : ℕ) → slice_get (map f xs) k ≡ option_map f (slice_get xs k)
-nth_map f [] k = refl
-nth_map f (x ∷ xs) zero = refl
-nth_map f (x ∷ xs) (suc k) = nth_map f xs k
+each_nth d P xs k x e h = subst P (get_or_from_slice_get xs k x d e) (h k (slice_get_within xs k x e))
 
 -- what a table with space for all holds afterwards
 pub all_put : {X : Type 0} (r : Bool) (n m : ℕ) (zs xs ys : List X) → r ≡ leb n m → zs ≡ cond r xs ys → n ≤ m → zs ≡ xs

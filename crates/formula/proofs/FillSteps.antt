@@ -1,6 +1,7 @@
 -- The tables of a formula, clause by clause.
-use Rattle.std.proofs.Common.{◌≡◌, ℕ, ◌+◌, ◌<◌, ◌≤◌, List, [], ◌∷◌, ◌++◌, map, length, sym, refl, ap, ◌∙◌, append_assoc, zero-add, arith}
+use Rattle.std.proofs.Common.{◌≡◌, ℕ, ◌+◌, ◌<◌, ◌≤◌, List, [], ◌∷◌, ◌++◌, map, length, sym, ap, ◌∙◌, zero-add, arith}
 use Rattle.std.proofs.lemmas.List.{length-append, length_push}
+use Rattle.std.proofs.lemmas.List.Concat.{flat_map-append}
 use Rattle.tables.specs.Filled.{filled, over}
 use Rattle.formula.specs.declared.formula.Formula.{Formula}
 use Rattle.formula.specs.declared.clauses.Clauses.{Clauses}
@@ -62,13 +63,9 @@ pub record Fills (found : Survey) (left : Clauses) (g f : Formula) : Type 0 wher
   pub many : length clauses ≡ left.count
   pub holds : Holds g f found.clauses.header.variables clauses
 
-literals_append : (xs ys : List Clause) → literals_of (xs ++ ys) ≡ literals_of xs ++ literals_of ys
-literals_append [] ys = refl
-literals_append (x ∷ xs) ys = ap (λ l. x ++ l) (literals_append xs ys) ∙ sym (append_assoc x (literals_of xs) (literals_of ys))
-
 literals_front : (xs ys zs : List Clause) → zs ≡ xs ++ ys → length (literals_of xs) ≤ length (literals_of zs)
 literals_front xs ys zs e =
-    let p = ap (λ c. length (literals_of c)) e ∙ ap length (literals_append xs ys) ∙ length-append (literals_of xs) (literals_of ys) in
+    let p = ap (λ c. length (literals_of c)) e ∙ ap length (flat_map-append (λ c. c) xs ys) ∙ length-append (literals_of xs) (literals_of ys) in
     omega (arith, p)
 
 -- the second pass meets one clause more: there is space for it

@@ -3,6 +3,7 @@ use Rattle.std.proofs.Common.{◌≡◌, ℕ, zero, suc, ◌<◌, ◌≤◌, Boo
 use Rattle.std.specs.List.{AllByRecursion}
 use Rattle.std.proofs.lemmas.List.{length_push}
 use Rattle.std.proofs.lemmas.Bool.{cases_Bool, and_parts, or_parts, or_from, ltb-false, leb-true, leb-false, eqb-true, eqb-false, ne_eqb}
+use Rattle.std.proofs.lemmas.Option.{none-some}
 use Rattle.std.proofs.ByRecursion.{All-push}
 use Rattle.answers.specs.declared.fault.Fault.{Fault}
 use Rattle.answers.specs.declared.fault.Fault.TheVariants.{Header, Misshapen, VariableAbove, VariableTwice, ManyLiterals, ClauseCount}
@@ -19,12 +20,6 @@ no_clause f c e = let z : ◌≡◌ {A = ℕ} 0 1 = cc in omega arith
 
 pub no_formula : (f : Fault) (n v : ℕ) (cs : List Clause) → refused f n ≡ formula v cs → ⊥
 no_formula f n v cs e = let z : ◌≡◌ {A = ℕ} 0 1 = cc in omega arith
-
-nothing : {A : Type 0} (x : A) → ◌≡◌ {A = Option A} None (Some x) → ⊥
-nothing x e = let z : ◌≡◌ {A = ℕ} 0 1 = cc in omega arith
-
-something : {A : Type 0} (x : A) → ◌≡◌ {A = Option A} (Some x) None → ⊥
-something x e = let z : ◌≡◌ {A = ℕ} 0 1 = cc in omega arith
 
 -- one more literal
 has_push : (l z : ℤ) (ls : Clause) → has_variable l ls ≡ false → eqb (nat_abs z) (nat_abs l) ≡ false → has_variable l (ls ++ z ∷ []) ≡ false
@@ -63,7 +58,7 @@ unless_is None r c e = (refl, e)
 
 -- a chain of tests that finds nothing failed at each
 failed : (b : Bool) (f : Fault) (o : Option Fault) → cond b (Some f) o ≡ None → (b ≡ false) × (o ≡ None)
-failed true f o e = absurd (something f e)
+failed true f o e = cc
 failed false f o e = (refl, e)
 
 pub record Fine (v : ℕ) (surplus : Bool) (ls : Clause) (z : ℤ) : Type 0 where
@@ -120,8 +115,8 @@ not_surplus v ts c e = let d = due_at v true ts c e in let z : ◌≡◌ {A = �
 
 -- the header
 number_in_lem : (low high : ℕ) (t : Token) (n : ℕ) → number_in low high t ≡ Some n → (low ≤ n) × (n ≤ high)
-number_in_lem low high (word w) n e = absurd (nothing n e)
-number_in_lem low high (number (negsuc m)) n e = absurd (nothing n e)
+number_in_lem low high (word w) n e = cc
+number_in_lem low high (number (negsuc m)) n e = cc
 number_in_lem low high (number (pos m)) n e =
     elim (cases_Bool (leb low m && leb m high)) [
       | inl i ↦
@@ -131,31 +126,31 @@ number_in_lem low high (number (pos m)) n e =
           let a = leb-true low m p.0 in
           let b = leb-true m high p.1 in
           (omega arith, omega arith)
-      | inr i ↦ absurd (nothing n (sym (ap (λ b. cond b (Some m) None) i) ∙ e))
+      | inr i ↦ absurd (none-some n (sym (ap (λ b. cond b (Some m) None) i) ∙ e))
     ]
 
 announced_is : (a b : Option ℕ) (h : Announced) → announced a b ≡ Some h → (a ≡ Some h.variables) × (b ≡ Some h.clauses)
-announced_is None b h e = absurd (nothing h e)
-announced_is (Some v) None h e = absurd (nothing h e)
+announced_is None b h e = cc
+announced_is (Some v) None h e = cc
 announced_is (Some v) (Some o) h e =
     let k : record { variables = v; clauses = o } ≡ h = cc in
     (ap (λ x. Some x.variables) k, ap (λ x. Some x.clauses) k)
 
 tested : {A : Type 0} (b : Bool) (o : Option A) (x : A) → cond b o None ≡ Some x → o ≡ Some x
 tested true o x e = e
-tested false o x e = absurd (nothing x e)
+tested false o x e = cc
 
 pub header_within : (ts : List Token) (h : Announced) → header_of ts ≡ Some h → (1 ≤ h.variables) × (h.variables ≤ 4096) × (h.clauses ≤ 65536)
-header_within [] h e = absurd (nothing h e)
-header_within (a ∷ []) h e = absurd (nothing h e)
-header_within (a ∷ b ∷ []) h e = absurd (nothing h e)
-header_within (a ∷ b ∷ c ∷ []) h e = absurd (nothing h e)
+header_within [] h e = cc
+header_within (a ∷ []) h e = cc
+header_within (a ∷ b ∷ []) h e = cc
+header_within (a ∷ b ∷ c ∷ []) h e = cc
 header_within (a ∷ b ∷ c ∷ d ∷ []) h e =
     let t = tested (is_word (codes "p") a && is_word (codes "cnf") b) (announced (number_in 1 4096 c) (number_in 0 65536 d)) h e in
     let p = announced_is (number_in 1 4096 c) (number_in 0 65536 d) h t in
     let v = number_in_lem 1 4096 c h.variables p.0 in
     (v.0, v.1, (number_in_lem 0 65536 d h.clauses p.1).1)
-header_within (a ∷ b ∷ c ∷ d ∷ f ∷ ts) h e = absurd (nothing h e)
+header_within (a ∷ b ∷ c ∷ d ∷ f ∷ ts) h e = cc
 
 -- the clauses
 and_then_lem : (n : ℕ) (r : Result Clause Fault) (go : Clause → Reading) (w : ℕ) (ds : List Clause) → and_then n r go ≡ formula w ds → (c : Clause) × (r ≡ Ok c) × (go c ≡ formula w ds)

@@ -3,13 +3,14 @@ use Rattle.std.proofs.Common.{◌≡◌, ℕ, zero, suc, ◌+◌, ◌-◌, ◌<�
 use Rattle.std.specs.List.{slice_get, AllByRecursion}
 use Rattle.std.specs.Option.{option_map}
 use Rattle.std.proofs.ByRecursion.{All-get_or}
+use Rattle.std.proofs.lemmas.Option.{slice_get-map}
 use Rattle.std.proofs.lemmas.List.{length-take, length-drop, length-append, get_or-take, get_or-drop, append_assoc, take_at, drop_at, drop-drop, flat_map_more}
 use Rattle.tables.specs.Filled.{over}
 use Rattle.formula.specs.declared.span.Span.{Span}
 use Rattle.formula.specs.Clauses.{Clause, LiteralOf, literals_of}
 use Rattle.formula.specs.Formulas.{numbered}
 use Rattle.formula.specs.Spans.{no_span, part, Inside, Ranged, spans_from}
-use Rattle.formula.proofs.Elements.{each, both, each_nth, nth_map}
+use Rattle.formula.proofs.Elements.{each, both, each_nth}
 
 -- what a table of spans and one of literals keep as they grow
 
@@ -40,7 +41,7 @@ numbered_nth cs (suc n) h = let e : suc n - 1 ≡ n = omega arith in ap (slice_g
 
 -- the clause with a number is the part that its span is
 pub numbered_part : (ls : List ℤ) (ss : List Span) (n : ℕ) (o : Option Span) → (n ≡ 0 → ⊥) → o ≡ slice_get ss (n - 1) → option_map (λ s. part s ls) o ≡ numbered (map (λ s. part s ls) ss) n
-numbered_part ls ss n o h e = sym (numbered_nth (map (λ s. part s ls) ss) n h ∙ nth_map (λ s. part s ls) ss (n - 1) ∙ ap (option_map (λ s. part s ls)) (sym e))
+numbered_part ls ss n o h e = sym (numbered_nth (map (λ s. part s ls) ss) n h ∙ slice_get-map (λ s. part s ls) ss (n - 1) ∙ ap (option_map (λ s. part s ls)) (sym e))
 
 -- clauses that lie one behind the other
 
