@@ -6,20 +6,13 @@ use Rattle.std.proofs.lemmas.Bool.{cases_Bool, and_parts, or_parts, or_from, ltb
 use Rattle.std.proofs.lemmas.Option.{none-some}
 use Rattle.std.proofs.ByRecursion.{All-push}
 use Rattle.answers.specs.declared.fault.Fault.{Fault}
-use Rattle.answers.specs.declared.fault.Fault.TheVariants.{Header, Misshapen, VariableAbove, VariableTwice, ManyLiterals, ClauseCount}
+use Rattle.answers.specs.declared.fault.Fault.TheVariants.{VariableAbove, VariableTwice, ManyLiterals, ClauseCount}
 use Rattle.text.specs.Words.{Token}
 use Rattle.text.specs.Words.Token.{number, word}
 use Rattle.formula.specs.Clauses.{Clause, has_variable, Once, LiteralOf, ClauseOf, FormulaOf}
 use Rattle.formula.specs.Rows.{Row, rows_of}
 use Rattle.formula.specs.Reading.{is_word, number_in, Announced, announced, header_of, is_zero, offence, closed, unless, clause_from, clause_of, Reading, and_then, read_clauses, behind_header, read_rows, reading}
 use Rattle.formula.specs.Reading.Reading.{formula, refused}
-
--- a fault is no clause, and a refusal no formula
-no_clause : (f : Fault) (c : Clause) → ◌≡◌ {A = Result Clause Fault} (Err f) (Ok c) → ⊥
-no_clause f c e = let z : ◌≡◌ {A = ℕ} 0 1 = cc in omega arith
-
-pub no_formula : (f : Fault) (n v : ℕ) (cs : List Clause) → refused f n ≡ formula v cs → ⊥
-no_formula f n v cs e = let z : ◌≡◌ {A = ℕ} 0 1 = cc in omega arith
 
 -- one more literal
 has_push : (l z : ℤ) (ls : Clause) → has_variable l ls ≡ false → eqb (nat_abs z) (nat_abs l) ≡ false → has_variable l (ls ++ z ∷ []) ≡ false
@@ -43,17 +36,17 @@ clause_push v ls z c l h n =
 
 -- what a token of a clause says, if it does not offend
 nonzero : (z : ℤ) → is_zero z ≡ false → 1 ≤ nat_abs z
-nonzero (pos zero) e = let z : ◌≡◌ {A = ℕ} 0 1 = cc in absurd (omega arith)
+nonzero (pos zero) e = cc
 nonzero (pos (suc n)) e = omega arith
 nonzero (negsuc n) e = omega arith
 
 closed_is : (s : Bool) (ls : Clause) (ts : List Token) (c : Clause) → closed s ls ts ≡ Ok c → (s ≡ false) × (ts ≡ []) × (c ≡ ls)
-closed_is true ls ts c e = absurd (no_clause ClauseCount c e)
+closed_is true ls ts c e = cc
 closed_is false ls [] c e = (refl, refl, cc)
-closed_is false ls (t ∷ ts) c e = absurd (no_clause Misshapen c e)
+closed_is false ls (t ∷ ts) c e = cc
 
 unless_is : (o : Option Fault) (r : Result Clause Fault) (c : Clause) → unless o r ≡ Ok c → (o ≡ None) × (r ≡ Ok c)
-unless_is (Some f) r c e = absurd (no_clause f c e)
+unless_is (Some f) r c e = cc
 unless_is None r c e = (refl, e)
 
 -- a chain of tests that finds nothing failed at each
@@ -93,8 +86,8 @@ step v s ls z ts c e =
     ]
 
 from_within : (v : ℕ) (s : Bool) (ls : Clause) (ts : List Token) (c : Clause) → ClauseOf v ls → clause_from v s ls ts ≡ Ok c → ClauseOf v c
-from_within v s ls [] c h e = absurd (no_clause Misshapen c e)
-from_within v s ls (word w ∷ ts) c h e = absurd (no_clause Misshapen c e)
+from_within v s ls [] c h e = cc
+from_within v s ls (word w ∷ ts) c h e = cc
 from_within v s ls (number z ∷ ts) c h e =
     elim (step v s ls z ts c e) [
       | inl l ↦ subst (ClauseOf v) (sym l.2) h
@@ -105,13 +98,13 @@ pub clause_within : (v : ℕ) (surplus : Bool) (ts : List Token) (c : Clause) �
 clause_within v s ts c e = from_within v s [] ts c (record { literals = tt; once = tt; few = omega arith }) e
 
 due_at : (v : ℕ) (s : Bool) (ts : List Token) (c : Clause) → clause_of v s ts ≡ Ok c → s ≡ false
-due_at v s [] c e = absurd (no_clause Misshapen c e)
-due_at v s (word w ∷ ts) c e = absurd (no_clause Misshapen c e)
+due_at v s [] c e = cc
+due_at v s (word w ∷ ts) c e = cc
 due_at v s (number z ∷ ts) c e = elim (step v s [] z ts c e) [ inl l ↦ l.0 | inr n ↦ n.1.due ]
 
 -- no clause is read beyond the announced ones
 pub not_surplus : (v : ℕ) (ts : List Token) (c : Clause) → clause_of v true ts ≡ Ok c → ⊥
-not_surplus v ts c e = let d = due_at v true ts c e in let z : ◌≡◌ {A = ℕ} 0 1 = cc in omega arith
+not_surplus v ts c e = let d = due_at v true ts c e in cc
 
 -- the header
 number_in_lem : (low high : ℕ) (t : Token) (n : ℕ) → number_in low high t ≡ Some n → (low ≤ n) × (n ≤ high)
@@ -155,11 +148,11 @@ header_within (a ∷ b ∷ c ∷ d ∷ f ∷ ts) h e = cc
 -- the clauses
 and_then_lem : (n : ℕ) (r : Result Clause Fault) (go : Clause → Reading) (w : ℕ) (ds : List Clause) → and_then n r go ≡ formula w ds → (c : Clause) × (r ≡ Ok c) × (go c ≡ formula w ds)
 and_then_lem n (Ok c) go w ds e = (c, refl, e)
-and_then_lem n (Err f) go w ds e = absurd (no_formula f n w ds e)
+and_then_lem n (Err f) go w ds e = cc
 
 pub ended : (b : Bool) (v : ℕ) (cs : List Clause) (w : ℕ) (ds : List Clause) → cond b (formula v cs) (refused ClauseCount 0) ≡ formula w ds → (b ≡ true) × (w ≡ v) × (ds ≡ cs)
 ended true v cs w ds e = (refl, cc, cc)
-ended false v cs w ds e = absurd (no_formula ClauseCount 0 w ds e)
+ended false v cs w ds e = cc
 
 pub clauses_within : (v o : ℕ) (cs : List Clause) (rs : List Row) (w : ℕ) (ds : List Clause) → read_clauses v o cs rs ≡ formula w ds → AllByRecursion (ClauseOf v) cs → length cs ≤ o → (w ≡ v) × AllByRecursion (ClauseOf v) ds × (length ds ≡ o)
 clauses_within v o cs [] w ds e a l =
@@ -179,14 +172,14 @@ clauses_grow v o cs (r ∷ rs) w ds e =
     (t.0 ∷ g.0, g.1 ∙ append_assoc cs (t.0 ∷ []) g.0)
 
 behind_within : (n : ℕ) (ts : List Token) (o : Option Announced) (rs : List Row) (v : ℕ) (cs : List Clause) → header_of ts ≡ o → behind_header n o rs ≡ formula v cs → FormulaOf v cs
-behind_within n ts None rs v cs h e = absurd (no_formula Header n v cs e)
+behind_within n ts None rs v cs h e = cc
 behind_within n ts (Some a) rs v cs h e =
     let b = header_within ts a h in
     let c = clauses_within a.variables a.clauses [] rs v cs e tt (omega arith) in
     record { some = omega (arith, c.0, b.0); low = omega (arith, c.0, b.1); few = omega (arith, c.2, b.2); clauses = subst (λ (x : ℕ). AllByRecursion (ClauseOf x) cs) (sym c.0) c.1 }
 
 rows_within : (rs : List Row) (v : ℕ) (cs : List Clause) → read_rows rs ≡ formula v cs → FormulaOf v cs
-rows_within [] v cs e = absurd (no_formula Header 0 v cs e)
+rows_within [] v cs e = cc
 rows_within (r ∷ rs) v cs e = behind_within r.line r.tokens (header_of r.tokens) rs v cs refl e
 
 -- whatever reads as a formula is within the limits

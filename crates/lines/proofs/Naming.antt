@@ -50,13 +50,13 @@ module _ (ls : List ℤ) (hs : List ℕ) (rs : List Row) (h : ℕ) where
 
 -- a place that is named is one of the list
 place_within : (h : ℕ) (xs : List Held) (t : ℕ) → place_named xs h ≡ Some t → t < length xs
-place_within h [] t e = let z : ◌≡◌ {A = ℕ} 0 1 = cc in absurd (omega arith)
+place_within h [] t e = cc
 place_within h (x ∷ xs) t e = step h x xs (place_named xs h) (place_within h xs) (names h x) refl t e
   where
     step : (h : ℕ) (x : Held) (xs : List Held) (o : Option ℕ) → ((t : ℕ) → place_named xs h ≡ Some t → t < length xs) → (b : Bool) → place_named xs h ≡ o → (t : ℕ) → option_or (option_map suc o) (only_if b 0) ≡ Some t → t < suc (length xs)
     step h x xs (Some u) on b is t e = let w = on u is in let z : suc u ≡ t = cc in omega arith
     step h x xs None on true is t e = let z : ◌≡◌ {A = ℕ} 0 t = cc in omega arith
-    step h x xs None on false is t e = let z : ◌≡◌ {A = ℕ} 0 1 = cc in absurd (omega arith)
+    step h x xs None on false is t e = cc
 
 pub place_filled : (t : Lines) (h k : ℕ) → place_named (held_in t) h ≡ Some k → k < length (filled t.entries)
 place_filled t h k e =

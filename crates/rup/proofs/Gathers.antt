@@ -21,8 +21,8 @@ pub first : (K : Known) (q h : ℕ) (hs : List ℕ) (cs : List Clause) → gathe
 first K q h hs cs e = by (K h) refl (gather K (q + 1) hs) refl e
   where
     by : (o : Option Clause) → K h ≡ o → (g : Gathered) → gather K (q + 1) hs ≡ g → gathered o (q + 1) g ≡ Ok cs → First K q h hs cs
-    by None n g m e = let z : ◌≡◌ {A = ℕ} 0 1 = cc in absurd (omega arith)
-    by (Some c) n (Err p) m e = let z : ◌≡◌ {A = ℕ} 0 1 = cc in absurd (omega arith)
+    by None n g m e = cc
+    by (Some c) n (Err p) m e = cc
     by (Some c) n (Ok ds) m e = record { clause = c; rest = ds; names = n; others = m; parts = cc }
 
 -- hint i names clause i

@@ -1,5 +1,5 @@
 -- A verdict depends only on the clauses that the hints name. Assumes nothing.
-use Rattle.std.proofs.Common.{◌≡◌, ℕ, ◌+◌, Bool, true, false, cond, ◌⊎◌, List, [], ◌∷◌, Some, None, Option, refl, ap, ◌∙◌, inl, inr, arith, Ok, Err}
+use Rattle.std.proofs.Common.{◌≡◌, ℕ, ◌+◌, Bool, true, false, cond, ◌⊎◌, List, [], ◌∷◌, Some, None, Option, refl, ap, ◌∙◌, inl, inr, Ok, Err}
 use Rattle.answers.specs.declared.fault.Fault.TheVariants.{LineVariableAbove, LineVariableTwice}
 use Rattle.formula.specs.Clauses.{Clause}
 use Rattle.formula.specs.Laws.{In}
@@ -30,7 +30,7 @@ found_again K J p (h ∷ hs) cs e m =
     ]
   where
     none : (o : Option Clause) (c : Clause) → o ≡ None → o ≡ Some c → ⊥
-    none o c a b = let z : ◌≡◌ {A = ℕ} 0 1 = cc in omega arith
+    none o c a b = cc
 
 pub more : (v : ℕ) (K J : Known) (l : Line) → ((h : ℕ) → In h l.hints → (K h ≡ None) ⊎ (J h ≡ K h)) → HintsKnown (verdict v K l) → verdict v J l ≡ verdict v K l
 more v K J l m k = go (outside v l.literals) (twice l.literals) (gather K 0 l.hints) refl k

@@ -17,9 +17,6 @@ opposite_of v (pos zero) h = h
 opposite_of v (pos (suc n)) h = h
 opposite_of v (negsuc n) h = h
 
-ft : {X : Type 0} → ◌≡◌ {A = Bool} false true → X
-ft e = let z : ◌≡◌ {A = ℕ} 0 1 = cc in absurd (omega arith)
-
 -- different literals have different bytes
 apart : (v : ℕ) (l k : ℤ) → LiteralOf v l → LiteralOf v k → int_eq l k ≡ false → byte_of l ≡ byte_of k → ⊥
 apart v (pos m) (pos n) (a, b) (c, d) e q = not_from_Decides _ (Decides-int_eq (pos m) (pos n)) e (ap pos (omega arith))

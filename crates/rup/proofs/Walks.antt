@@ -20,7 +20,7 @@ module _ (K : Known) (hs : List ℕ) (cs : List Clause) (gs : List ℤ) (p : ℕ
   no_hint low is =
       let g = gathered_at K 0 hs cs p all low in
       let n = g.1 in
-      let z : ◌≡◌ {A = ℕ} 0 1 = cc in omega arith
+      cc
 
   -- behind the last hint
   pub walk_end : p ≤ length hs → length hs ≤ p → walk gs p (drop p cs) ≡ fails NoConflict (length hs)

@@ -26,8 +26,8 @@ shown (deletion ns) p h b ls hs e c d = ap (λ h. item_text (place_of h) (item_i
 pub item_listed : (w : Bool) → w ≡ true → (xs : List Placed) (e : Ending) (h : Head) (b : Body) (ls : List ℤ) (hs : List ℕ) (s s' t : List ℕ) →
     Ok h ≡ looked w xs e → b.literals ≡ written w (first_literals xs) ls → b.numbers ≡ written w (first_hints xs) hs → s' ≡ s ++ item_text (place_of h) (item_in h b) → s ++ listing xs e ≡ t →
     s' ++ listing (behind_first xs) e ≡ t
-item_listed false q xs e h b ls hs s s' t a c d f g = let z : ◌≡◌ {A = ℕ} 0 1 = cc in absurd (omega arith)
-item_listed true q [] e h b ls hs s s' t a c d f g = let p : Ok h ≡ Err (ended e) = a in let z : ◌≡◌ {A = ℕ} 0 1 = cc in absurd (omega arith)
+item_listed false q xs e h b ls hs s s' t a c d f g = cc
+item_listed true q [] e h b ls hs s s' t a c d f g = let p : Ok h ≡ Err (ended e) = a in cc
 item_listed true q (x ∷ xs) e h b ls hs s s' t a c d f g =
     let p : Ok h ≡ Ok (head_of x.item x.place) = a in
     let k : h ≡ head_of x.item x.place = cc in
@@ -36,9 +36,9 @@ item_listed true q (x ∷ xs) e h b ls hs s s' t a c d f g =
 
 -- no item is left
 pub ending_listed : (w : Bool) → w ≡ true → (xs : List Placed) (e : Ending) (r : Refusal) → Err r ≡ looked w xs e → (xs ≡ []) × (r ≡ refusal_at e.fault e.place)
-ending_listed false q xs e r a = let z : ◌≡◌ {A = ℕ} 0 1 = cc in absurd (omega arith)
+ending_listed false q xs e r a = cc
 ending_listed true q [] e r a = let p : Err r ≡ Err (ended e) = a in (refl, (cc))
-ending_listed true q (x ∷ xs) e r a = let p : Err r ≡ Ok (head_of x.item x.place) = a in let z : ◌≡◌ {A = ℕ} 0 1 = cc in absurd (omega arith)
+ending_listed true q (x ∷ xs) e r a = let p : Err r ≡ Ok (head_of x.item x.place) = a in cc
 
 pub all_listed : (xs : List Placed) (e : Ending) (r : Refusal) (s s' t : List ℕ) → xs ≡ [] → r ≡ refusal_at e.fault e.place → s' ≡ s ++ ending_text r.fault r.place → s ++ listing xs e ≡ t → s' ≡ t
 all_listed xs e r s s' t p q d f = d ∙ ap (λ (x : Refusal). s ++ ending_text x.fault x.place) q ∙ sym (ap (λ ys. s ++ listing ys e) p) ∙ f

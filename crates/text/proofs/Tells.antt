@@ -1,20 +1,18 @@
 -- What the scanner's steps tell of the tokens left.
-use Rattle.std.proofs.Common.{◌≡◌, ℕ, ◌-◌, ◌<◌, ◌≤◌, true, false, eqb, List, [], ◌∷◌, map, length, Some, None, sym, refl, ap, ◌∙◌, inl, inr, arith}
+use Rattle.std.proofs.Common.{◌≡◌, ℕ, ◌-◌, ◌<◌, ◌≤◌, true, false, eqb, List, [], ◌∷◌, map, length, None, sym, refl, ap, ◌∙◌, inl, inr, arith}
 use Rattle.std.proofs.lemmas.Bool.{eqb-false, ne_eqb, cases_eq, cases_Bool, or_from}
+use Rattle.std.proofs.lemmas.Option.{none-some}
 use Rattle.text.specs.Words.{blank, digit, token_of, natural, Token}
 use Rattle.text.specs.Fronts.{ends, unblanked, behind_word, word_of, at_end, number_from, behind_line, fed, tokens_left, Natural, Sized, Goes, Stops, Ends}
 use Rattle.text.proofs.Steps.{digit_goes, number_ends}
 use Rattle.text.proofs.Firsts.{word_length, word_first, line_word, feed_word, tokens_unblanked, line_unblanked, feed_unblanked, word_none, word_some, zero_only, zero_more, first_digit}
-
-none_some : {A : Type 0} (x : A) → None ≡ Some x → ⊥
-none_some x p = let z : ◌≡◌ {A = ℕ} 0 1 = cc in omega arith
 
 -- the digits behind a first one make no number
 pub nat_none : (c : ℕ) (cs : List ℕ) → digit c ≡ true → number_from (c - 48) cs ≡ None → natural (word_of (c ∷ cs)) ≡ None
 nat_none c cs d e =
     elim (cases_eq c 48) [
       | inl z ↦ elim (cases_Bool (at_end cs)) [
-        | inl a ↦ absurd (none_some 0 (sym e ∙ ap (λ c. number_from (c - 48) cs) z ∙ number_ends cs 0 a (omega arith)))
+        | inl a ↦ absurd (none-some 0 (sym e ∙ ap (λ c. number_from (c - 48) cs) z ∙ number_ends cs 0 a (omega arith)))
         | inr a ↦ ap (λ c. natural (word_of (c ∷ cs))) z ∙ zero_more cs a
       ]
       | inr z ↦ first_digit c cs d (ne_eqb c 48 z) ∙ e

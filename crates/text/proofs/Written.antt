@@ -3,7 +3,7 @@ use Rattle.std.proofs.Common.{◌≡◌, ℕ, zero, suc, ◌^◌, ◌<◌, ◌�
 use Rattle.std.specs.List.{AllByRecursion}
 use Rattle.std.specs.Fmt.{signed_decimal}
 use Rattle.std.proofs.lemmas.Bool.{eq-eqb, ne_eqb, le-leb, cases_eq, and_from, or_from}
-use Rattle.std.proofs.ByRecursion.{All-from_get_or, All-append}
+use Rattle.std.proofs.ByRecursion.{All-from_get_or, All-append, All-weaker}
 use Rattle.std.proofs.lemmas.Str.Parse.{IsNumeralModel, numerals_by_fold, digit_at}
 use Rattle.std.proofs.lemmas.Fmt.{digits_decimal, digits_value-decimal, decimal_nonempty, first_decimal, decimal_digit}
 use Rattle.text.specs.Words.{limit, join_first, lines_of, blank, in_word, glue, words_of, all_digits, value_from, decimal_form, natural, unsigned, negative, token_of, tokens_of}
@@ -50,13 +50,9 @@ lines_line (c ∷ cs) rest h =
     let n : eqb c 10 ≡ false = ne_eqb c 10 (λ e. (let x = h.0 in omega arith)) in
     ap (λ b. cond b ([] ∷ lines_of (cs ++ 10 ∷ rest)) (join_first c (lines_of (cs ++ 10 ∷ rest)))) n ∙ ap (join_first c) (lines_line cs rest h.1)
 
-lighter : (w : List ℕ) → AllByRecursion Dark w → AllByRecursion Light w
-lighter [] h = tt
-lighter (c ∷ cs) h = ((let x = h.0 in omega arith), lighter cs h.1)
-
 pub word_light : (w : List ℕ) → Word w → AllByRecursion Light w
 word_light [] h = absurd h
-word_light (c ∷ cs) h = ((let x = h.0 in omega arith), lighter cs h.1)
+word_light (c ∷ cs) h = ((let x = h.0 in omega arith), All-weaker Dark Light (λ c d. omega arith) cs h.1)
 
 pub spaced_light : (ws : List (List ℕ)) → AllByRecursion Word ws → AllByRecursion Light (spaced ws)
 spaced_light [] h = tt
