@@ -2,7 +2,7 @@
 use Rattle.std.specs.Prelude.{◌≡◌, ℕ, ◌+◌, ◌*◌, true, List, [], ◌∷◌, length, drop, Ok, Err, Result}
 use Rattle.std.specs.Borrow.{Bor}
 use Rattle.answers.specs.declared.refusal.Refusal.{Refusal}
-use Rattle.source.specs.Bodies.{item_in}
+use Rattle.source.specs.Bodies.{item_in, Counts}
 use Rattle.source.specs.Looks.{ended, head_of}
 use Rattle.source.specs.declared.body.Body.{Body}
 use Rattle.source.specs.declared.head.Head.{Head}
@@ -56,7 +56,7 @@ abbrev pub Stands : RecordSource → Body → Result (Found × Bor (List ℕ)) R
 Stands s b (Ok p) = (reached s.bytes.now s.at s.records s.additions ≡ true) × Finds (first_record (drop s.at s.bytes.now)) (s.records + 1) b p
 Stands s b (Err e) = Closes s e
 
--- the first item left at a cursor and a mark behind it, or the ending
+-- the first item left at a cursor, with counts within the limits, and a mark behind it; or the ending
 abbrev pub Nexts : RecordSource → Body → Result (Head × Mark) Refusal → Type 0
-Nexts s b (Ok (h, m)) = (left s.bytes.now s.at s.records s.additions ≡ before (item_in h b) (s.records + 1) (left s.bytes.now m.at m.place m.additions)) × (h ≡ head_of (item_in h b) (s.records + 1))
+Nexts s b (Ok (h, m)) = (left s.bytes.now s.at s.records s.additions ≡ before (item_in h b) (s.records + 1) (left s.bytes.now m.at m.place m.additions)) × (h ≡ head_of (item_in h b) (s.records + 1)) × Counts h
 Nexts s b (Err e) = Closes s e

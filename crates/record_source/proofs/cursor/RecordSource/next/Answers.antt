@@ -1,13 +1,17 @@
 -- What is left behind the item that was found, or at the last record.
-use Rattle.std.proofs.Common.{◌≡◌, ◌+◌, ◌-◌, ◌^◌, ◌<◌, length, subst, drop, ap, ◌∙◌, arith, rules, ℕ, List, Bor, Ok}
-use Rattle.source.specs.Bodies.{item_in}
-use Rattle.source.specs.Looks.{ended}
+use Rattle.std.proofs.Common.{◌≡◌, ◌+◌, ◌-◌, ◌^◌, ◌<◌, length, subst, sym, drop, ap, ◌∙◌, arith, rules, ℕ, List, Bor, Ok}
+use Rattle.source.specs.Bodies.{item_in, Counts}
+use Rattle.source.specs.Looks.{ended, head_of}
+use Rattle.source.specs.Items.{Item, addition, deletion}
+use Rattle.source.specs.Limits.{Within, AllWithin}
+use Rattle.source.specs.declared.head.Head.{Head}
+use Rattle.record_source.specs.Keeps.{left_within}
 use Rattle.source.specs.declared.body.Body.{Body}
 use Rattle.record_source.specs.declared.cursor.RecordSource.{RecordSource}
 use Rattle.record_source.specs.declared.found.Found.{Found}
 use Rattle.record_source.specs.Lefts.{left}
 use Rattle.record_source.specs.Records.{first_record, line}
-use Rattle.record_source.specs.Reading.{before, counted, closing}
+use Rattle.record_source.specs.Reading.{Reading, before, counted, closing}
 use Rattle.record_source.specs.Tells.{Finds, Stands}
 use Rattle.record_source.proofs.Places.{where_left, left_line, counted_other, last_closes}
 use Rattle.record_source.proofs.cursor.RecordSource.next.Goals as goal
@@ -16,6 +20,15 @@ use Rattle.record_source.proofs.cursor.RecordSource.next.Goals.{in-Addition, in_
 -- what is told of the record, once it is known which
 found : (s : RecordSource) (b : Body) (r : Bor (List ℕ)) (f k : Found) → f ≡ k → Stands s b (Ok (f, r)) → Finds (first_record (drop s.at s.bytes.now)) (s.records + 1) b (k, r)
 found s b r f k e h = subst (λ x. Finds (first_record (drop s.at s.bytes.now)) (s.records + 1) b (x, r)) e h.1
+
+-- an item that is left keeps the limits, and so do the counts of its head
+counts_left : (s : RecordSource) (h : Head) (b : Body) (place : ℕ) (on : Reading) → left s.bytes.now s.at s.records s.additions ≡ before (item_in h b) place on → h ≡ head_of (item_in h b) place → Counts h
+counts_left s h b place on e k =
+    subst Counts (sym k) (counts_of (item_in h b) place (subst (λ (q : Reading). AllWithin q.items) e (left_within s.bytes.now s.at s.records s.additions)).0)
+  where
+    counts_of : (x : Item) (place : ℕ) → Within x → Counts (head_of x place)
+    counts_of (addition n ls hs) place w = (w.2, w.4)
+    counts_of (deletion ns) place w = w.1
 
 pub overflow_sub-mark : goal.overflow_sub-mark
 overflow_sub-mark c =
@@ -37,11 +50,11 @@ returns-after-matches c =
     elim c.match-matches.branch [
       | in-Addition w ↦ ap (λ y. counted (item_in y b) s.additions) w.in-Addition.is ∙ ap (λ n. s.additions + n) (let m = w.matches-is in let f = c.from.ensures in cc)
       | in_default w ↦ counted_other c.in-Item.head b s.additions w.in_default.not-Addition ∙ (let m = w.matches-is in let f = c.from.ensures in let none : c.from.result ≡ 0 = cc in omega arith)
-    ] in (
-      subst (λ n. left s.bytes.now s.at s.records s.additions ≡ before x (s.records + 1) (left s.bytes.now (length s.bytes.now - length r) (s.records + 1) n)) more
-          (left_line s.bytes.now s.at s.records s.additions small c.in_ok-found.ensures.0 x r h.0),
-      h.1,
-    )
+    ] in
+    let e =
+    subst (λ n. left s.bytes.now s.at s.records s.additions ≡ before x (s.records + 1) (left s.bytes.now (length s.bytes.now - length r) (s.records + 1) n)) more
+    (left_line s.bytes.now s.at s.records s.additions small c.in_ok-found.ensures.0 x r h.0)
+    in (e, h.1, counts_left s c.in-Item.head b _ _ e h.1)
 
 pub returns-then-is_empty : goal.returns-then-is_empty
 returns-then-is_empty c =
