@@ -103,9 +103,8 @@ pub(crate) fn addition_count(rest: &[u8]) -> Result<(u32, &[u8]), Flaw>
 pub(crate) fn row<'a, F: Field>(mut rest: &'a [u8], out: &mut [F]) -> Result<&'a [u8], Flaw>
     ensures { ReadRow (in_row F.rule (length out.old) rest.now) out.new result }
 {
-    // by index: what a loop over `iter_mut` writes, a proof does not know
-    for i in 0..out.len() {
-        (out[i], rest) = F::read(rest)?;
+    for slot in out.iter_mut() {
+        (*slot, rest) = F::read(rest)?;
     }
     Ok(rest)
 }

@@ -4,5 +4,5 @@ use Rattle.record_source.specs.Fields.{in_row}
 use Rattle.record_source.proofs.Steps.{prefixed}
 use Rattle.record_source.proofs.fields.row.Given as goal
 
-abbrev pub invariant-loop-i : goal.invariant-loop-i
-invariant-loop-i g l = in_row g.F.Field.rule (length l.fn.out) l.fn.rest ≡ prefixed (take l.i l.out) (in_row g.F.Field.rule (length l.fn.out - l.i) l.rest)
+abbrev pub invariant-loop-slot : goal.invariant-loop-slot
+invariant-loop-slot g l = in_row g.F.Field.rule (length l.fn.out) l.fn.rest ≡ prefixed (take l.slot-index l.out) (in_row g.F.Field.rule (length l.fn.out - l.slot-index) l.rest)
