@@ -92,7 +92,7 @@ counted_other (Addition n l k place) b a f = absurd (f n l k place refl)
 counted_other (Deletion k place) b a f = refl
 
 -- where the reading ends at once, its ending is answered
-pub none_left : (s : RecordSource) (fault : Fault) (place : ℕ) (stopped : Bool) (e : Refusal) → left s.bytes.now s.at s.records s.additions ≡ ends fault place stopped → e ≡ refusal_at fault place → Closes s e
+pub none_left : (s : RecordSource) (fault : Fault) (place : ℕ) (stopped : Bool) (e : Refusal) → left s.bytes.now s.mark.at s.mark.place s.mark.additions ≡ ends fault place stopped → e ≡ refusal_at fault place → Closes s e
 none_left s fault place stopped e q h = (ap (λ (x : Reading). x.items) q, h ∙ ap (λ (x : Reading). ended x.ending) (sym q))
 
 -- no item comes at the last record
@@ -102,7 +102,7 @@ closing_none n a place rest =
     (λ _. cond_both (eqb rest 0) (ends NoItem 0 false) (ends Record (place + 1) false) (λ r. r.items ≡ []) (λ _. refl) (λ _. refl))
     (λ _. refl)
 
-pub last_closes : (s : RecordSource) (n : ℕ) (r : List ℕ) (e : Refusal) → length s.bytes.now < 2 ^ 64 → reached s.bytes.now s.at s.records s.additions ≡ true → first_record (drop s.at s.bytes.now) ≡ got (last n) r → e ≡ ended (closing n s.additions (s.records + 1) (length r)).ending → Closes s e
+pub last_closes : (s : RecordSource) (n : ℕ) (r : List ℕ) (e : Refusal) → length s.bytes.now < 2 ^ 64 → reached s.bytes.now s.mark.at s.mark.place s.mark.additions ≡ true → first_record (drop s.mark.at s.bytes.now) ≡ got (last n) r → e ≡ ended (closing n s.mark.additions (s.mark.place + 1) (length r)).ending → Closes s e
 last_closes s n r e small ok g h =
-    let q = left_last s.bytes.now s.at s.records s.additions small ok n r g in
-    (ap (λ (x : Reading). x.items) q ∙ closing_none n s.additions (s.records + 1) (length r), h ∙ ap (λ (x : Reading). ended x.ending) (sym q))
+    let q = left_last s.bytes.now s.mark.at s.mark.place s.mark.additions small ok n r g in
+    (ap (λ (x : Reading). x.items) q ∙ closing_none n s.mark.additions (s.mark.place + 1) (length r), h ∙ ap (λ (x : Reading). ended x.ending) (sym q))

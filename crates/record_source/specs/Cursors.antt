@@ -7,11 +7,11 @@ use Rattle.record_source.specs.declared.cursor.RecordSource.{RecordSource}
 
 -- the items from the cursor on
 abbrev pub items_left : RecordSource → List Placed
-items_left s = (left s.bytes.now s.at s.records s.additions).items
+items_left s = (left s.bytes.now s.mark.at s.mark.place s.mark.additions).items
 
 -- their ending
 abbrev pub ending_left : RecordSource → Ending
-ending_left s = (left s.bytes.now s.at s.records s.additions).ending
+ending_left s = (left s.bytes.now s.mark.at s.mark.place s.mark.additions).ending
 
 -- what is left at the mark is all but the first item
 abbrev pub LeadsOn : RecordSource → Mark → Type 0

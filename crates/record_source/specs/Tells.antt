@@ -53,10 +53,10 @@ Closes s e = (items_left s ≡ []) × (e ≡ ended (ending_left s))
 
 -- the record that stands at a cursor, or the ending
 abbrev pub Stands : RecordSource → Body → Result (Found × Bor (List ℕ)) Refusal → Type 0
-Stands s b (Ok p) = (reached s.bytes.now s.at s.records s.additions ≡ true) × Finds (first_record (drop s.at s.bytes.now)) (s.records + 1) b p
+Stands s b (Ok p) = (reached s.bytes.now s.mark.at s.mark.place s.mark.additions ≡ true) × Finds (first_record (drop s.mark.at s.bytes.now)) (s.mark.place + 1) b p
 Stands s b (Err e) = Closes s e
 
 -- the first item left at a cursor, with counts within the limits, and a mark behind it; or the ending
 abbrev pub Nexts : RecordSource → Body → Result (Head × Mark) Refusal → Type 0
-Nexts s b (Ok (h, m)) = (left s.bytes.now s.at s.records s.additions ≡ before (item_in h b) (s.records + 1) (left s.bytes.now m.at m.place m.additions)) × (h ≡ head_of (item_in h b) (s.records + 1)) × Counts h
+Nexts s b (Ok (h, m)) = (left s.bytes.now s.mark.at s.mark.place s.mark.additions ≡ before (item_in h b) (s.mark.place + 1) (left s.bytes.now m.at m.place m.additions)) × (h ≡ head_of (item_in h b) (s.mark.place + 1)) × Counts h
 Nexts s b (Err e) = Closes s e

@@ -24,12 +24,12 @@ AnyLeads (Records r) m = RecordLeads r m
 
 pub any_within : (s : AnySource) → AllWithin (any_items s)
 any_within (Text t) = items_keep t
-any_within (Records r) = left_within r.bytes.now r.at r.records r.additions
+any_within (Records r) = left_within r.bytes.now r.mark.at r.mark.place r.mark.additions
 
 pub any_ends : (s : AnySource) → EndingWithin (any_ending s)
 any_ends (Text t) = ending_keeps t
-any_ends (Records r) = left_ends r.bytes.now r.at r.records r.additions
+any_ends (Records r) = left_ends r.bytes.now r.mark.at r.mark.place r.mark.additions
 
 pub any_few : (s : AnySource) → length (any_items s) < 2 ^ 63
 any_few (Text t) = items_few t
-any_few (Records r) = left_few r.bytes.now r.at r.records r.additions
+any_few (Records r) = left_few r.bytes.now r.mark.at r.mark.place r.mark.additions

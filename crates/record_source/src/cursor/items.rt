@@ -25,25 +25,31 @@ impl<'a> RecordSource<'a> {
     {
         RecordSource {
             bytes,
-            at: 0,
-            records: 0,
-            additions: 0,
+            mark: Mark {
+                at: 0,
+                place: 0,
+                additions: 0,
+            },
         }
     }
 
     // The record at the cursor, with its numbers in the body, and what is left behind it; or the
-    // ending. No reading comes to a cursor with more records before it than bytes for them.
+    // ending. No reading comes to a cursor behind the end, or with more records before it than bytes
+    // for them, or more additions than records: nothing is left there.
     fn record(&self, body: &mut Body) -> Result<(Found, &[u8]), Refusal>
         ensures { Stands self.now body.new result }
     {
-        if self.at > self.bytes.len()
-            || self.records > self.at / 4
-            || self.additions > self.records
+        if self.mark.at > self.bytes.len()
+            || self.mark.place > self.mark.at / 4
+            || self.mark.additions > self.mark.place
         {
             return Err(Refusal::at(Fault::NoItem, 0));
         }
-        let place = self.records + 1;
-        first(&self.bytes[self.at..], place, body).map_err(|flaw| Refusal::at(flaw.into(), place))
+        let place = self.mark.place + 1;
+        first(&self.bytes[self.mark.at..], place, body).map_err(|flaw| Refusal::at(
+            flaw.into(),
+            place,
+        ))
     }
 
     // The first item's head, with its numbers in the body, and a mark behind it; or the ending.
@@ -51,18 +57,18 @@ impl<'a> RecordSource<'a> {
         ensures { Nexts self.now body.new result }
     {
         let (found, rest) = self.record(body)?;
-        let place = self.records + 1;
+        let place = self.mark.place + 1;
         match found {
             Found::Item(head) => {
                 let is_addition = matches!(head, Head::Addition(..));
                 let mark = Mark {
                     at: self.bytes.len() - rest.len(),
                     place,
-                    additions: self.additions + usize::from(is_addition),
+                    additions: self.mark.additions + usize::from(is_addition),
                 };
                 Ok((head, mark))
             }
-            Found::Last(n) => Err(if n as usize != self.additions {
+            Found::Last(n) => Err(if n as usize != self.mark.additions {
                 Refusal::at(Fault::Record, place)
             } else if rest.is_empty() {
                 Refusal::at(Fault::NoItem, 0)
@@ -78,11 +84,11 @@ impl Source for RecordSource<'_> {
 
     ghost ending = { ending_left };
 
-    ghost within = { λ s. left_within s.bytes.now s.at s.records s.additions };
+    ghost within = { λ s. left_within s.bytes.now s.mark.at s.mark.place s.mark.additions };
 
-    ghost ends = { λ s. left_ends s.bytes.now s.at s.records s.additions };
+    ghost ends = { λ s. left_ends s.bytes.now s.mark.at s.mark.place s.mark.additions };
 
-    ghost few = { λ s. left_few s.bytes.now s.at s.records s.additions };
+    ghost few = { λ s. left_few s.bytes.now s.mark.at s.mark.place s.mark.additions };
 
     fn look(&self, literals: &mut [i32], hints: &mut [u32]) -> Result<Head, Refusal> {
         let (head, _) = self.fetch(literals, hints)?;

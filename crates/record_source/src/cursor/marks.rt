@@ -19,8 +19,6 @@ impl Marked for RecordSource<'_> {
     }
 
     fn pass(&mut self, mark: Mark) {
-        self.at = mark.at;
-        self.records = mark.place;
-        self.additions = mark.additions;
+        self.mark = mark;
     }
 }
