@@ -65,7 +65,7 @@ impl Field for i32 {
     }
 }
 
-// two functions, since no `from_be_bytes` serves both counts of bytes: a shared one would say more
+// two functions, as `number` and `i32::read`: one would take `from_be_bytes` as a closure, and be longer
 /// How many literals an addition has.
 pub(crate) fn literal_count(rest: &[u8]) -> Result<(usize, &[u8]), Flaw>
     ensures { Read (count_field 1 64 rest.now) result }
