@@ -39,17 +39,16 @@ impl<'a> RecordSource<'a> {
     fn record(&self, body: &mut Body) -> Result<(Found, &[u8]), Refusal>
         ensures { Stands self.now body.new result }
     {
-        if self.mark.at > self.bytes.len()
-            || self.mark.place > self.mark.at / 4
-            || self.mark.additions > self.mark.place
-        {
+        let Mark {
+            at,
+            place: records,
+            additions,
+        } = self.mark;
+        if at > self.bytes.len() || records > at / 4 || additions > records {
             return Err(Refusal::at(Fault::NoItem, 0));
         }
-        let place = self.mark.place + 1;
-        first(&self.bytes[self.mark.at..], place, body).map_err(|flaw| Refusal::at(
-            flaw.into(),
-            place,
-        ))
+        let place = records + 1;
+        first(&self.bytes[at..], place, body).map_err(|flaw| Refusal::at(flaw.into(), place))
     }
 
     // The first item's head, with its numbers in the body, and a mark behind it; or the ending.
