@@ -65,6 +65,7 @@ pub enum Fault {
 }
 
 impl Fault {
+    // no `From`: `number` says at each call what the u8 is
     /// The number by which the fault is answered.
     pub fn number(self) -> u8
         ensures { result ≡ number_of self }

@@ -13,7 +13,7 @@ use answers::fault::Fault;
 use lines::addition::Addition;
 use lines::lines::Lines;
 
-// Labelled loops that are left from inside, with one place at which every verdict comes out.
+// Labelled loops, left from inside, are a rule of the project here: so a verdict is set, not returned.
 // Goes through the clauses of hints, each of which names one.
 fn walk(lines: &Lines, hints: &[u32], bytes: &mut [u8]) -> Result<usize, Failure>
     requires { length bytes.old ≡ 2 * variables_in lines.now }

@@ -7,8 +7,8 @@ mod reads;
 #[derive(Clone, Copy)]
 pub struct TextSource<'a> {
     bytes: &'a [u8],
-    // where the next line begins
+    // where the next line begins, and how many lines stand before it; no `Mark`, since a text counts
+    // no additions
     at: usize,
-    // how many lines stand before it
     lines: usize,
 }

@@ -18,8 +18,7 @@ fn run<'a, T: Kept>(first: Scan<'a>, out: &mut [T]) -> Result<(usize, &'a [u8]),
     ensures { Runs (collect T.keep (length out.old) (tokens_from first.entry)) (line_behind first.entry) out.new result }
 {
     let mut token = first;
-    // counted by hand: a loop over `out` would have to test one more number behind it, and `tables` is
-    // another layer's
+    // counted by hand: a loop over `out` would have to test one more number behind it
     let mut n = 0;
     while let Scan::Number(z, rest) = token {
         if z == 0 {
