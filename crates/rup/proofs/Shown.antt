@@ -1,5 +1,5 @@
 -- Bytes that show which literals are false. Assumes nothing.
-use Rattle.std.proofs.Common.{◌≡◌, ℕ, zero, suc, ◌*◌, ◌<◌, ◌≤◌, Bool, true, false, cond, ◌||◌, eqb, leb, List, [], ◌∷◌, ◌++◌, length, get_or, take, set, replicate, ℤ, pos, negsuc, neg_ℤ, sym, refl, ap, ◌∙◌, subst, ⊎_elim, arith}
+use Rattle.std.proofs.Common.{◌≡◌, ℕ, zero, suc, ◌*◌, ◌<◌, ◌≤◌, Bool, true, false, cond, ◌||◌, eqb, leb, List, [], ◌∷◌, length, get_or, take, set, replicate, ℤ, pos, negsuc, neg_ℤ, sym, refl, ap, ◌∙◌, subst, ⊎_elim, arith}
 use Rattle.std.proofs.lemmas.List.{length-set, get_or-set_same, get_or-set_other, length-take-le}
 use Rattle.std.proofs.lemmas.Bool.{cases_Bool, and_parts, and_from, leb-true, eqb-true, eq-eqb}
 use Rattle.std.specs.Ordering.{int_eq}
@@ -36,20 +36,6 @@ shows_more v bytes falses l lit s = record { long = subst (λ (n : ℕ). 2 * v �
         ⊎_elim (λ (y : int_eq k l ≡ true). ap (λ (j : ℤ). get_or (set bytes (byte_of l) 1) (byte_of j) 0) ((Decides-int_eq k l).0 y) ∙ get_or-set_same bytes (byte_of l) 1 0 low ∙ sym (ap (λ (b : Bool). cond (b || among k falses) 1 0) y))
         (λ (n : int_eq k l ≡ false). get_or-set_other bytes (byte_of l) (byte_of k) 1 0 (apart v k l h lit n) ∙ s.each k h ∙ sym (ap (λ (b : Bool). cond (b || among k falses) 1 0) n))
         (cases_Bool (int_eq k l))
-
--- the order of literals does not matter
-pub shows_as : (v : ℕ) (bytes : List ℕ) (falses gs : List ℤ) → ((k : ℤ) → among k falses ≡ among k gs) → Shows v bytes falses → Shows v bytes gs
-shows_as v bytes falses gs e s = record { long = s.long; each = λ k h. s.each k h ∙ ap (λ (b : Bool). cond b 1 0) (e k) }
-
-or_swap : (a b c : Bool) → (a || (b || c)) ≡ (b || (a || c))
-or_swap true true c = refl
-or_swap true false c = refl
-or_swap false true c = refl
-or_swap false false c = refl
-
-pub among_push : (k l : ℤ) (ls : List ℤ) → among k (l ∷ ls) ≡ among k (ls ++ l ∷ [])
-among_push k l [] = refl
-among_push k l (x ∷ xs) = or_swap (int_eq k l) (int_eq k x) (among k xs) ∙ ap (λ (b : Bool). int_eq k x || b) (among_push k l xs)
 
 -- what a byte tells
 pub byte_zero : (b : Bool) (n : ℕ) → n ≡ cond b 1 0 → n ≡ 0 → b ≡ false

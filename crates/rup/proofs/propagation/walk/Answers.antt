@@ -1,11 +1,12 @@
 use Rattle.std.proofs.Common.{◌≡◌, ℕ, ◌+◌, ◌≤◌, true, false, List, ◌∷◌, get_or, drop, set, ℤ, pos, neg_ℤ, sym, refl, ap, ◌∙◌, subst, arith, w32, to_z, of_z, rules, Ok, Err}
+use Rattle.std.proofs.lemmas.Grind.{common_steps}
 use Rattle.std.proofs.lemmas.Int.{to_z-of_z}
 use Rattle.answers.specs.declared.fault.Fault.TheVariants.{HintNotUnit}
 use Rattle.formula.specs.Clauses.{Clause, LiteralOf}
 use Rattle.lines.specs.Tables.{variables_in, named_in}
 use Rattle.rup.specs.Bytes.{byte_of, Shows}
 use Rattle.rup.specs.Propagation.{fails, among, left, by_left, walk}
-use Rattle.rup.proofs.Lefts.{seen, SeenOf, left_skip, left_take, left_first, left_second, left_end, negated}
+use Rattle.rup.proofs.Lefts.{seen, SeenOf, left_take, left_second, left_end, negated}
 use Rattle.rup.proofs.Shown.{byte_zero, byte_set, shows_more, opposite_of}
 use Rattle.rup.proofs.Walks.{walk_at, no_hint, walk_end}
 use Rattle.rup.proofs.propagation.walk.Goals as goal
@@ -17,29 +18,10 @@ told v bytes gs l b lit s e =
     (byte_zero (among l gs) (get_or bytes b 0) q, byte_set (among l gs) (get_or bytes b 0) q)
 
 pub literals-preserved-then-bytes-byte_of-ne0 : goal.literals-preserved-then-bytes-byte_of-ne0
-literals-preserved-then-bytes-byte_of-ne0 c =
-    let v = variables_in c.args.lines.now in
-    let cl = c.in-Some.clause.now in
-    let i = c.literals.l-index in
-    let z = get_or cl i (pos 0) in
-    let e : to_z w32 (of_z w32 z) ≡ z = search (rules, to_z-of_z) in
-    let lit : LiteralOf v z = c.in-Some.ensures.limits i c.literals-test.true in
-    (c.literals.invariant.0, c.literals.invariant.1, λ gs s. left_skip gs cl i z c.literals-test.true refl c.literals.unit (c.literals.invariant.2 gs s) ((told v c.hints.bytes gs z c.byte_of.result lit s (c.byte_of.ensures ∙ ap byte_of e)).1 c.if-bytes-byte_of-ne0.true))
+literals-preserved-then-bytes-byte_of-ne0 c = (c.literals.invariant.0, c.literals.invariant.1, grind (arith, common_steps))
 
 pub literals-preserved : goal.literals-preserved
-literals-preserved c =
-    let v = variables_in c.args.lines.now in
-    let cl = c.in-Some.clause.now in
-    let i = c.literals.l-index in
-    let z = get_or cl i (pos 0) in
-    let e : to_z w32 (of_z w32 z) ≡ z = search (rules, to_z-of_z) in
-    let lit : LiteralOf v z = c.in-Some.ensures.limits i c.literals-test.true in (
-      c.literals.invariant.0,
-      subst (LiteralOf v) (sym e) lit,
-      λ gs s.
-          left_first gs cl i z c.literals.unit c.in-None.is (left_take gs cl i z c.literals-test.true refl c.literals.unit (c.literals.invariant.2 gs s) ((told v c.hints.bytes gs z c.byte_of.result lit s (c.byte_of.ensures ∙ ap byte_of e)).0 c.if-bytes-byte_of-ne0.false))
-          ∙ ap (λ (l : ℤ). l ∷ left gs (drop (i + 1) cl)) (sym e),
-    )
+literals-preserved c = (c.literals.invariant.0, search rules, grind (arith, common_steps))
 
 pub hints-preserved : goal.hints-preserved
 hints-preserved c =
