@@ -1,9 +1,9 @@
 -- What is left of a clause, one literal after the other. Assumes nothing.
-use Rattle.std.proofs.Common.{◌≡◌, ℕ, zero, suc, ◌+◌, ◌<◌, ◌≤◌, Bool, true, false, cond, List, [], ◌∷◌, ◌++◌, length, get_or, drop, ℤ, pos, negsuc, ◌-ℤ◌, neg_ℤ, nat_abs, Some, None, Option, ap, ◌∙◌, arith, to_z-of_z, w32, SFits, to_z, of_z}
+use Rattle.std.proofs.Common.{◌≡◌, ℕ, zero, suc, ◌≤◌, List, [], ◌∷◌, ◌++◌, length, drop, ℤ, pos, negsuc, ◌-ℤ◌, neg_ℤ, nat_abs, Some, None, Option, ap, ◌∙◌, arith, to_z-of_z, w32, SFits, to_z, of_z}
 use lib.IntN.{+ℤ_idl}
-use Rattle.std.proofs.lemmas.List.{at_drop_more, at_drop_all, append-nil}
+use Rattle.std.proofs.lemmas.List.{at_drop_all, append-nil}
 use Rattle.formula.specs.Clauses.{Clause, LiteralOf}
-use Rattle.rup.specs.Propagation.{among, left, by_left}
+use Rattle.rup.specs.Propagation.{left, by_left}
 
 -- the literal seen so far, if there is one
 abbrev pub seen : Option ℤ → List ℤ
@@ -13,22 +13,6 @@ seen (Some l) = l ∷ []
 abbrev pub SeenOf : ℕ → Option ℤ → Type 0
 SeenOf v None = Unit {0}
 SeenOf v (Some l) = LiteralOf v l
-
-module _ (falses : List ℤ) (c : Clause) (i : ℕ) (l : ℤ) (within : i < length c) (is : get_or c i (pos 0) ≡ l) (u : Option ℤ) (inv : left falses c ≡ seen u ++ left falses (drop i c)) where
-  here : left falses c ≡ seen u ++ cond (among l falses) (left falses (drop (i + 1) c)) (l ∷ left falses (drop (i + 1) c))
-  here = inv ∙ ap (λ (r : List ℤ). seen u ++ r) (at_drop_more (left falses) c i (pos 0) within ∙ ap (λ (x : ℤ). left falses (x ∷ drop (i + 1) c)) is)
-
-  -- a false literal
-  pub left_skip : among l falses ≡ true → left falses c ≡ seen u ++ left falses (drop (i + 1) c)
-  left_skip e = here ∙ ap (λ (b : Bool). seen u ++ cond b (left falses (drop (i + 1) c)) (l ∷ left falses (drop (i + 1) c))) e
-
-  -- one that is not false
-  pub left_take : among l falses ≡ false → left falses c ≡ seen u ++ l ∷ left falses (drop (i + 1) c)
-  left_take e = here ∙ ap (λ (b : Bool). seen u ++ cond b (left falses (drop (i + 1) c)) (l ∷ left falses (drop (i + 1) c))) e
-
--- the first one
-pub left_first : (falses : List ℤ) (c : Clause) (i : ℕ) (l : ℤ) (u : Option ℤ) → u ≡ None → left falses c ≡ seen u ++ l ∷ left falses (drop (i + 1) c) → left falses c ≡ seen (Some l) ++ left falses (drop (i + 1) c)
-left_first falses c i l u e h = h ∙ ap (λ (o : Option ℤ). seen o ++ l ∷ left falses (drop (i + 1) c)) e
 
 -- a second one
 pub left_second : {R : Type 0} (falses : List ℤ) (c : Clause) (l : ℤ) (u : Option ℤ) (k : ℤ) (rest : List ℤ) (conflict : R) (unit : ℤ → R) (more : R) → u ≡ Some k → left falses c ≡ seen u ++ l ∷ rest → by_left (left falses c) conflict unit more ≡ more

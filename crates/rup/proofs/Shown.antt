@@ -37,15 +37,6 @@ shows_more v bytes falses l lit s = record { long = subst (λ (n : ℕ). 2 * v �
         (λ (n : int_eq k l ≡ false). get_or-set_other bytes (byte_of l) (byte_of k) 1 0 (apart v k l h lit n) ∙ s.each k h ∙ sym (ap (λ (b : Bool). cond (b || among k falses) 1 0) n))
         (cases_Bool (int_eq k l))
 
--- what a byte tells
-pub byte_zero : (b : Bool) (n : ℕ) → n ≡ cond b 1 0 → n ≡ 0 → b ≡ false
-byte_zero false n e z = refl
-byte_zero true n e z = absurd (omega arith)
-
-pub byte_set : (b : Bool) (n : ℕ) → n ≡ cond b 1 0 → (n ≡ 0 → ⊥) → b ≡ true
-byte_set true n e z = refl
-byte_set false n e z = absurd (z e)
-
 -- zero bytes
 
 pub each_zero : (bs : List ℕ) → ((k : ℕ) → k < length bs → get_or bs k 0 ≡ 0) → all_zero bs ≡ true

@@ -1,21 +1,14 @@
-use Rattle.std.proofs.Common.{◌≡◌, ℕ, ◌+◌, ◌≤◌, true, false, List, ◌∷◌, get_or, drop, set, ℤ, pos, neg_ℤ, sym, refl, ap, ◌∙◌, subst, arith, w32, to_z, of_z, rules, Ok, Err}
+use Rattle.std.proofs.Common.{◌≡◌, ℕ, ◌+◌, ◌≤◌, ◌∷◌, ◌++◌, get_or, drop, set, pos, neg_ℤ, sym, ap, ◌∙◌, subst, arith, rules, Ok, Err}
 use Rattle.std.proofs.lemmas.Grind.{common_steps}
-use Rattle.std.proofs.lemmas.Int.{to_z-of_z}
 use Rattle.answers.specs.declared.fault.Fault.TheVariants.{HintNotUnit}
 use Rattle.formula.specs.Clauses.{Clause, LiteralOf}
 use Rattle.lines.specs.Tables.{variables_in, named_in}
 use Rattle.rup.specs.Bytes.{byte_of, Shows}
-use Rattle.rup.specs.Propagation.{fails, among, left, by_left, walk}
-use Rattle.rup.proofs.Lefts.{seen, SeenOf, left_take, left_second, left_end, negated}
-use Rattle.rup.proofs.Shown.{byte_zero, byte_set, shows_more, opposite_of}
+use Rattle.rup.specs.Propagation.{fails, left, by_left, walk}
+use Rattle.rup.proofs.Lefts.{seen, SeenOf, left_second, left_end, negated}
+use Rattle.rup.proofs.Shown.{shows_more, opposite_of}
 use Rattle.rup.proofs.Walks.{walk_at, no_hint, walk_end}
 use Rattle.rup.proofs.propagation.walk.Goals as goal
-
--- what the byte of a literal tells
-told : (v : ℕ) (bytes : List ℕ) (gs : List ℤ) (l : ℤ) (b : ℕ) → LiteralOf v l → Shows v bytes gs → b ≡ byte_of l → (get_or bytes b 0 ≡ 0 → among l gs ≡ false) × ((get_or bytes b 0 ≡ 0 → ⊥) → among l gs ≡ true)
-told v bytes gs l b lit s e =
-    let q = ap (λ (k : ℕ). get_or bytes k 0) e ∙ s.each l lit in
-    (byte_zero (among l gs) (get_or bytes b 0) q, byte_set (among l gs) (get_or bytes b 0) q)
 
 pub literals-preserved-then-bytes-byte_of-ne0 : goal.literals-preserved-then-bytes-byte_of-ne0
 literals-preserved-then-bytes-byte_of-ne0 c = (c.literals.invariant.0, c.literals.invariant.1, grind (arith, common_steps))
@@ -57,18 +50,15 @@ returns-in_default c = λ cs falses all s. absurd (no_hint (named_in c.args.line
 
 pub returns-in-Some-unit : goal.returns-in-Some-unit
 returns-in-Some-unit c = λ cs falses all s.
-    let v = variables_in c.args.lines.now in
     let K = named_in c.args.lines.now in
     let hs = c.args.hints.now in
     let p = c.hints.p in
     let cl = c.in-Some.clause.now in
     let i = c.literals.l-index in
     let z = get_or cl i (pos 0) in
-    let e : to_z w32 (of_z w32 z) ≡ z = search (rules, to_z-of_z) in
-    let lit : LiteralOf v z = c.in-Some.ensures.limits i c.literals-test.true in
     let h = c.hints.invariant.1 cs falses all s in
     let gs = h.0 in
-    let two = left_take gs cl i z c.literals-test.true refl c.literals.unit (c.literals.invariant.2 gs h.1) ((told v c.hints.bytes gs z c.byte_of.result lit h.1 (c.byte_of.ensures ∙ ap byte_of e)).0 c.if-bytes-byte_of-ne0.false) in
+    let two : left gs cl ≡ seen c.literals.unit ++ z ∷ left gs (drop (i + 1) cl) = grind (arith, common_steps, c.literals.invariant.2 gs h.1) in
     ap Err c.at-in-Some-unit.ensures ∙ sym (h.2 ∙ walk_at K hs cs gs p all cl c.hints-test.true c.in-Some.ensures.is ∙ left_second gs cl z c.literals.unit c.in-Some-unit.field-0 (left gs (drop (i + 1) cl)) (Ok (p + 1)) (λ k. walk (neg_ℤ k ∷ gs) (p + 1) (drop (p + 1) cs)) (fails HintNotUnit (p + 1)) c.in-Some-unit.is two)
 
 pub returns-in-None-unit : goal.returns-in-None-unit
