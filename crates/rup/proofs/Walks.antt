@@ -8,12 +8,12 @@ use Rattle.rup.proofs.Gathers.{gathered_at, gathered_length}
 
 module _ (K : Known) (hs : List ℕ) (cs : List Clause) (gs : List ℤ) (p : ℕ) (all : gather K 0 hs ≡ Ok cs) where
   -- at a hint, by what is left of its clause
-  pub walk_at : (c : Clause) (low : p < length hs) → Some c ≡ K (get_or hs p 0) → walk gs p (drop p cs) ≡ by_left (left gs c) (Ok (p + 1)) (λ l. walk (neg_ℤ l ∷ gs) (p + 1) (drop (p + 1) cs)) (fails HintNotUnit (p + 1))
-  walk_at c low is =
+  pub walk_at : (c us : Clause) (low : p < length hs) → Some c ≡ K (get_or hs p 0) → left gs c ≡ us → walk gs p (drop p cs) ≡ by_left us (Ok (p + 1)) (λ l. walk (neg_ℤ l ∷ gs) (p + 1) (drop (p + 1) cs)) (fails HintNotUnit (p + 1))
+  walk_at c us low is e =
       let g = gathered_at K 0 hs cs p all low in
       let n = g.1 in
       let d : g.0 ≡ c = cc in
-      ap (walk gs p) g.2 ∙ ap (λ (c : Clause). by_left (left gs c) (Ok (p + 1)) (λ l. walk (neg_ℤ l ∷ gs) (p + 1) (drop (p + 1) cs)) (fails HintNotUnit (p + 1))) d
+      ap (walk gs p) g.2 ∙ ap (λ (r : Clause). by_left r (Ok (p + 1)) (λ l. walk (neg_ℤ l ∷ gs) (p + 1) (drop (p + 1) cs)) (fails HintNotUnit (p + 1))) (ap (left gs) d ∙ e)
 
   -- no hint names nothing
   pub no_hint : p < length hs → None ≡ K (get_or hs p 0) → ⊥

@@ -1,11 +1,10 @@
-use Rattle.std.proofs.Common.{◌≡◌, ℕ, ◌+◌, ◌≤◌, ◌∷◌, ◌++◌, get_or, drop, set, pos, neg_ℤ, sym, ap, ◌∙◌, subst, arith, rules, Ok, Err}
+use Rattle.std.proofs.Common.{◌≡◌, ℕ, ◌+◌, ◌≤◌, [], ◌∷◌, get_or, drop, set, pos, neg_ℤ, sym, ap, ◌∙◌, subst, arith, rules, Err}
 use Rattle.std.proofs.lemmas.Grind.{common_steps}
-use Rattle.answers.specs.declared.fault.Fault.TheVariants.{HintNotUnit}
-use Rattle.formula.specs.Clauses.{Clause, LiteralOf}
+use Rattle.formula.specs.Clauses.{LiteralOf}
 use Rattle.lines.specs.Tables.{variables_in, named_in}
 use Rattle.rup.specs.Bytes.{byte_of, Shows}
-use Rattle.rup.specs.Propagation.{fails, left, by_left, walk}
-use Rattle.rup.proofs.Lefts.{seen, SeenOf, left_second, left_end, negated}
+use Rattle.rup.specs.Propagation.{left}
+use Rattle.rup.proofs.Lefts.{SeenOf, negated}
 use Rattle.rup.proofs.Shown.{shows_more, opposite_of}
 use Rattle.rup.proofs.Walks.{walk_at, no_hint, walk_end}
 use Rattle.rup.proofs.propagation.walk.Goals as goal
@@ -32,10 +31,10 @@ hints-preserved c =
       λ cs falses all s.
           let h = c.hints.invariant.1 cs falses all s in
           let gs = h.0 in
-          let u = left_end gs cl c.literals.l-index c.literals.unit c.literals-test.false (c.literals.invariant.2 gs h.1) ∙ ap seen c.in-Some-unit-2.is in (
+          let u : left gs cl ≡ l ∷ [] = grind (arith, common_steps, c.literals.invariant.2 gs h.1) in (
             neg_ℤ l ∷ gs,
             subst (λ (k : ℕ). Shows v (set c.hints.bytes k 1) (neg_ℤ l ∷ gs)) (sym b) (shows_more v c.hints.bytes gs (neg_ℤ l) (opposite_of v l lit) h.1),
-            h.2 ∙ walk_at K hs cs gs p all cl c.hints-test.true c.in-Some.ensures.is ∙ ap (λ (r : Clause). by_left r (Ok (p + 1)) (λ k. walk (neg_ℤ k ∷ gs) (p + 1) (drop (p + 1) cs)) (fails HintNotUnit (p + 1))) u,
+            h.2 ∙ walk_at K hs cs gs p all cl _ c.hints-test.true c.in-Some.ensures.is u,
           ),
     )
 
@@ -58,8 +57,8 @@ returns-in-Some-unit c = λ cs falses all s.
     let z = get_or cl i (pos 0) in
     let h = c.hints.invariant.1 cs falses all s in
     let gs = h.0 in
-    let two : left gs cl ≡ seen c.literals.unit ++ z ∷ left gs (drop (i + 1) cl) = grind (arith, common_steps, c.literals.invariant.2 gs h.1) in
-    ap Err c.at-in-Some-unit.ensures ∙ sym (h.2 ∙ walk_at K hs cs gs p all cl c.hints-test.true c.in-Some.ensures.is ∙ left_second gs cl z c.literals.unit c.in-Some-unit.field-0 (left gs (drop (i + 1) cl)) (Ok (p + 1)) (λ k. walk (neg_ℤ k ∷ gs) (p + 1) (drop (p + 1) cs)) (fails HintNotUnit (p + 1)) c.in-Some-unit.is two)
+    let two : left gs cl ≡ c.in-Some-unit.field-0 ∷ z ∷ left gs (drop (i + 1) cl) = grind (arith, common_steps, c.literals.invariant.2 gs h.1) in
+    ap Err c.at-in-Some-unit.ensures ∙ sym (h.2 ∙ walk_at K hs cs gs p all cl _ c.hints-test.true c.in-Some.ensures.is two)
 
 pub returns-in-None-unit : goal.returns-in-None-unit
 returns-in-None-unit c = λ cs falses all s.
@@ -69,5 +68,5 @@ returns-in-None-unit c = λ cs falses all s.
     let cl = c.in-Some.clause.now in
     let h = c.hints.invariant.1 cs falses all s in
     let gs = h.0 in
-    let u = left_end gs cl c.literals.l-index c.literals.unit c.literals-test.false (c.literals.invariant.2 gs h.1) ∙ ap seen c.in-None-unit.is in
-    sym (h.2 ∙ walk_at K hs cs gs p all cl c.hints-test.true c.in-Some.ensures.is ∙ ap (λ (r : Clause). by_left r (Ok (p + 1)) (λ k. walk (neg_ℤ k ∷ gs) (p + 1) (drop (p + 1) cs)) (fails HintNotUnit (p + 1))) u)
+    let u : left gs cl ≡ [] = grind (arith, common_steps, c.literals.invariant.2 gs h.1) in
+    sym (h.2 ∙ walk_at K hs cs gs p all cl _ c.hints-test.true c.in-Some.ensures.is u)
