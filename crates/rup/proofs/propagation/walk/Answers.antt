@@ -4,7 +4,7 @@ use Rattle.formula.specs.Clauses.{LiteralOf}
 use Rattle.lines.specs.Tables.{variables_in, named_in}
 use Rattle.rup.specs.Bytes.{byte_of, Shows}
 use Rattle.rup.specs.Propagation.{left}
-use Rattle.rup.proofs.Lefts.{SeenOf, negated}
+use Rattle.rup.proofs.Lefts.{SeenOf}
 use Rattle.rup.proofs.Shown.{shows_more, opposite_of}
 use Rattle.rup.proofs.Walks.{walk_at, no_hint, walk_end}
 use Rattle.rup.proofs.propagation.walk.Goals as goal
@@ -26,7 +26,7 @@ hints-preserved c =
     let lit : LiteralOf v l = subst (SeenOf v) c.in-Some-unit-2.is c.literals.invariant.1 in
     let most : v ≤ 4096 = c.args.lines.now.formula.now.low in
     let low = lit.1 in
-    let b = c.byte_of-in-Some-unit-2.ensures ∙ ap byte_of (negated l (omega arith)) in (
+    let b : c.byte_of-in-Some-unit-2.result ≡ byte_of (neg_ℤ l) = grind (arith, common_steps) in (
       c.literals.invariant.0,
       λ cs falses all s.
           let h = c.hints.invariant.1 cs falses all s in
