@@ -26,7 +26,20 @@ fn expect_list<M: Marked>(
     Ok(())
 }
 
-/// The text has this list, alone and as one of any kind.
+// The source has this list, alone and as one of any kind.
+fn expect_both<M: Marked>(
+    rt: &impl Abort,
+    case: usize,
+    heap: Global,
+    source: &mut M,
+    any: &mut AnySource,
+    listing: &str,
+) -> Result<(), Fail> {
+    expect_list(rt, case, heap, source, listing)?;
+    expect_list(rt, case, heap, any, listing)
+}
+
+/// The text has this list.
 pub(crate) fn expect_text<R: Abort>(
     rt: &R,
     case: usize,
@@ -34,12 +47,12 @@ pub(crate) fn expect_text<R: Abort>(
     bytes: &[u8],
     listing: &str,
 ) -> Result<(), Fail> {
-    let text = TextSource::new(bytes);
-    expect_list(rt, case, heap, &mut { text }, listing)?;
-    expect_list(rt, case, heap, &mut AnySource::Text(text), listing)
+    let mut text = TextSource::new(bytes);
+    let mut any = AnySource::Text(text);
+    expect_both(rt, case, heap, &mut text, &mut any, listing)
 }
 
-/// The record file has this list, alone and as one of any kind.
+/// The record file has this list.
 pub(crate) fn expect_file<R: Abort>(
     rt: &R,
     case: usize,
@@ -47,9 +60,9 @@ pub(crate) fn expect_file<R: Abort>(
     bytes: &[u8],
     listing: &str,
 ) -> Result<(), Fail> {
-    let records = RecordSource::new(bytes);
-    expect_list(rt, case, heap, &mut { records }, listing)?;
-    expect_list(rt, case, heap, &mut AnySource::Records(records), listing)
+    let mut records = RecordSource::new(bytes);
+    let mut any = AnySource::Records(records);
+    expect_both(rt, case, heap, &mut records, &mut any, listing)
 }
 
 // Each case is as `expect` has it; a failure names the case, counted from 0.

@@ -18,6 +18,7 @@ use source::source::Source;
 
 impl<'a> RecordSource<'a> {
     /// A source of all items of a record file. Its law: what is written reads back.
+    #[tactic(auto, using(crate::proofs::ReadBack::reads_back))]
     pub fn new(bytes: &'a [u8]) -> RecordSource<'a>
         ensures items { items_left result ≡ (reading bytes.now).items }
         ensures ending { ending_left result ≡ (reading bytes.now).ending }

@@ -16,6 +16,7 @@ use text::scanner::scan;
 
 impl<'a> TextSource<'a> {
     /// A source at the first line of a text. Its law: what is written reads back.
+    #[tactic(auto, using(crate::proofs::Texts::reads_back))]
     pub fn new(bytes: &'a [u8]) -> TextSource<'a>
         ensures items { items_left result ≡ (reading bytes.now).items }
         ensures ending { ending_left result ≡ (reading bytes.now).ending }
