@@ -39,6 +39,8 @@ fn expect_both<M: Marked>(
     expect_list(rt, case, heap, any, listing)
 }
 
+// Two functions: nothing makes an `AnySource` of either source, and what they share is one call.
+
 /// The text has this list.
 pub(crate) fn expect_text<R: Abort>(
     rt: &R,
@@ -65,28 +67,37 @@ pub(crate) fn expect_file<R: Abort>(
     expect_both(rt, case, heap, &mut records, &mut any, listing)
 }
 
-// Each case is as `expect` has it; a failure names the case, counted from 0.
-fn expect_each<R: Abort, F: Fn(&R, usize, Global, &[u8], &str) -> Result<(), Fail>>(
+/// Each case is as `expect` has it; a failure names the case, counted from 0.
+pub(crate) fn expect_each<R: Abort, T: Copy, F: Fn(&R, usize, Global, T) -> Result<(), Fail>>(
     rt: &R,
     heap: Global,
-    cases: &[Case],
+    cases: &[T],
     expect: F,
 ) -> Result<(), Fail>
     requires { F.IsAlwaysCallable expect }
 {
     for (i, c) in cases.iter().enumerate() {
-        let Case(bytes, listing) = *c;
-        expect(rt, i, heap, bytes, listing)?;
+        expect(rt, i, heap, *c)?;
     }
     Ok(())
 }
 
+fn expect_text_of<R: Abort>(rt: &R, case: usize, heap: Global, c: Case) -> Result<(), Fail> {
+    let Case(bytes, listing) = c;
+    expect_text(rt, case, heap, bytes, listing)
+}
+
+fn expect_file_of<R: Abort>(rt: &R, case: usize, heap: Global, c: Case) -> Result<(), Fail> {
+    let Case(bytes, listing) = c;
+    expect_file(rt, case, heap, bytes, listing)
+}
+
 /// Each text has its list.
 pub(crate) fn expect_texts<R: Abort>(rt: &R, heap: Global, cases: &[Case]) -> Result<(), Fail> {
-    expect_each(rt, heap, cases, expect_text::<R>)
+    expect_each(rt, heap, cases, expect_text_of::<R>)
 }
 
 /// Each record file has its list.
 pub(crate) fn expect_files<R: Abort>(rt: &R, heap: Global, cases: &[Case]) -> Result<(), Fail> {
-    expect_each(rt, heap, cases, expect_file::<R>)
+    expect_each(rt, heap, cases, expect_file_of::<R>)
 }

@@ -1,5 +1,5 @@
 //! Records at the limits: 64 literals, 256 hints, 256 deleted numbers.
-use crate::listings::expect_file;
+use crate::listings::{expect_each, expect_file};
 use crate::long_lines::push_row;
 use std::alloc::{AllocError, Global};
 use std::process::Abort;
@@ -110,14 +110,14 @@ fn expect(
     }
 }
 
-fn expect_addition(rt: &impl Abort, case: usize, heap: Global, c: Addition) -> Result<(), Fail> {
+fn expect_addition<R: Abort>(rt: &R, case: usize, heap: Global, c: Addition) -> Result<(), Fail> {
     let Addition(l, h, wanted) = c;
     let file = addition_file(heap, l, h)?;
     let listing = addition_list(heap, l, h)?;
     expect(rt, case, heap, file.as_slice(), listing.as_str(), wanted)
 }
 
-fn expect_deletion(rt: &impl Abort, case: usize, heap: Global, c: Deletion) -> Result<(), Fail> {
+fn expect_deletion<R: Abort>(rt: &R, case: usize, heap: Global, c: Deletion) -> Result<(), Fail> {
     let Deletion(n, wanted) = c;
     let file = deletion_file(heap, n)?;
     let listing = deletion_list(heap, n)?;
@@ -126,16 +126,10 @@ fn expect_deletion(rt: &impl Abort, case: usize, heap: Global, c: Deletion) -> R
 
 #[test]
 fn long_additions(rt: HostRuntime) -> Result<(), Fail> {
-    for (i, c) in ADDITIONS.iter().enumerate() {
-        expect_addition(&rt, i, rt.alloc(), *c)?;
-    }
-    Ok(())
+    expect_each(&rt, rt.alloc(), &ADDITIONS, expect_addition::<HostRuntime>)
 }
 
 #[test]
 fn long_deletions(rt: HostRuntime) -> Result<(), Fail> {
-    for (i, c) in DELETIONS.iter().enumerate() {
-        expect_deletion(&rt, i, rt.alloc(), *c)?;
-    }
-    Ok(())
+    expect_each(&rt, rt.alloc(), &DELETIONS, expect_deletion::<HostRuntime>)
 }
