@@ -73,11 +73,10 @@ static CLAUSES: [Good; 17] = [
     ),
 ];
 
-// All clauses in order, each by its literals, then 0; each is the one of its number.
-fn flat(rt: &impl Abort, case: usize, heap: Global, f: &Formula) -> Result<Vec<i32>, Fail> {
+// All clauses in order, each by its literals, then 0.
+fn flat(heap: Global, f: &Formula) -> Result<Vec<i32>, Fail> {
     let mut all = Vec::new(heap);
-    for (k, clause) in f.clauses().enumerate() {
-        assert_eq!(rt; f.clause(k.saturating_add(1)), Some(clause), "case {case}");
+    for clause in f.clauses() {
         all.extend_from_slice(clause)?;
         all.push(0)?;
     }
@@ -98,7 +97,10 @@ pub(crate) fn holds(
     assert!(rt; f.clause(0).is_none(), "case {case}");
     assert!(rt; f.clause(f.count() + 1).is_none(), "case {case}");
     assert!(rt; f.clause(usize::MAX).is_none(), "case {case}");
-    let all = flat(rt, case, heap, f)?;
+    for (k, clause) in f.clauses().enumerate() {
+        assert_eq!(rt; f.clause(k.saturating_add(1)), Some(clause), "case {case}");
+    }
+    let all = flat(heap, f)?;
     assert_eq!(rt; all.as_slice(), clauses, "case {case}");
     Ok(())
 }
