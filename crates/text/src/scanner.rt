@@ -1,5 +1,5 @@
 //! The tokens and lines at the front of a text, and what stands behind them.
-ghost use Rattle.std.specs.Prelude.{◌≡◌, ◌-◌, ◌<◌, ◌≤◌, false, cond, None, Some, length, IfSome};
+ghost use Rattle.std.specs.Prelude.{◌≡◌, ◌-◌, ◌<◌, ◌≤◌, false, cond, None, Some, [], length, drop, IfSome, IfNone};
 ghost use Rattle.std.specs.Option.{option_map};
 ghost use Rattle.text.specs.Words.{limit, blank};
 ghost use Rattle.text.specs.Fronts.{ends, unblanked, word_of, behind_word, behind_line, fed, tokens_left, no_tokens, Told, Digits, Naturals, Numbers};
@@ -24,11 +24,22 @@ fn is_end(b: u8) -> bool
 
 // Here and below a loop and no `position`, which leaves goals that no short answer closes.
 
+// Without the spaces at its front, four at a time: columns are set apart by long runs of them.
+fn skip_fours(text: &[u8]) -> &[u8]
+    ensures { unblanked result.now ≡ unblanked text.now }
+{
+    let mut rest = text;
+    while let [b' ', b' ', b' ', b' ', behind @ ..] = rest {
+        rest = behind;
+    }
+    rest
+}
+
 // The text without the blanks at its front.
 fn skip_blanks(text: &[u8]) -> &[u8]
     ensures { result.now ≡ unblanked text.now }
 {
-    let mut rest = text;
+    let mut rest = skip_fours(text);
     while let [first, behind @ ..] = rest {
         if !is_blank(*first) {
             break;
@@ -105,7 +116,17 @@ fn number(text: &[u8]) -> Option<(i32, &[u8])>
     }
 }
 
+/// The text from a position on; a position behind the end means the end.
+pub fn text_from(bytes: &[u8], position: usize) -> &[u8]
+    ensures { result.now ≡ drop position bytes.now }
+{
+    bytes.get(position..).unwrap_or(&[])
+}
+
+// Inlined into its callers: one that passes blank lines over, or that needs no bytes of a word, then
+// pays for neither the call nor the word.
 /// The next token of the line, or how the line ends.
+#[inline(always)]
 pub fn scan(text: &[u8]) -> Scan<'_>
     ensures { Told text.now result }
 {
@@ -141,6 +162,7 @@ pub fn line_end(text: &[u8]) -> Option<&[u8]>
 pub fn skip_line(text: &[u8]) -> Option<&[u8]>
     ensures is { option_map (λ x. x.now) result ≡ cond (fed text.now) (Some (behind_line text.now)) None }
     ensures shorter { IfSome result (λ x. length x.now < length text.now) }
+    ensures last { IfNone result (behind_line text.now ≡ []) }
 {
     let mut rest = text;
     while let [first, behind @ ..] = rest {

@@ -1,5 +1,5 @@
 -- The word at the front as a number without a sign.
-use Rattle.std.proofs.Common.{◌≡◌, ℕ, ◌-◌, ◌≤◌, true, length, sym, ap, ◌∙◌, subst}
+use Rattle.std.proofs.Common.{◌≡◌, ℕ, ◌-◌, ◌≤◌, true, length, sym, ap, ◌∙◌, subst, arith}
 use Rattle.text.specs.Words.{natural, digit}
 use Rattle.text.specs.Fronts.{word_of, Digits, Sized, Natural, Naturals}
 use Rattle.text.proofs.Tells.{nat_none, nat_zero, nat_sized}
@@ -19,7 +19,7 @@ pub returns-then-rest-behind : goal.returns-then-rest-behind
 returns-then-rest-behind c =
     let first = c.in_ok-first.first.now in
     let behind = c.in_ok-first.behind.now in
-    ap (λ t. natural (word_of t)) c.in_ok-first.ensures.cases.0 ∙ nat_zero first behind c.in_ok-n.n c.in_ok-n.rest.now c.if-first-eq48.true (subst (λ (k : ℕ). Sized behind k c.in_ok-n.n c.in_ok-n.rest.now) c.from.ensures c.in_ok-n.ensures) c.if-rest-behind.true
+    ap (λ t. natural (word_of t)) c.in_ok-first.ensures.cases.0 ∙ nat_zero first behind c.in_ok-n.n c.in_ok-n.rest.now c.if-first-eq48.true (subst (λ (k : ℕ). Sized behind k c.in_ok-n.n c.in_ok-n.rest.now) c.from.ensures c.in_ok-n.ensures) (omega (arith, c.if-rest-behind.true))
 
 pub returns-else-first-eq48 : goal.returns-else-first-eq48
 returns-else-first-eq48 c =
