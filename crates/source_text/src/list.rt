@@ -1,8 +1,9 @@
 //! The list of a source, as the program prints it.
 ghost use Rattle.std.specs.Prelude.{◌≡◌, ◌≤◌, [], ◌++◌, length, string_bytes, OnOk};
 ghost use Rattle.source.specs.Bodies.{item_in, place_of, Counts};
-ghost use Rattle.source_text.specs.Lists.{item_text, listing};
+ghost use Rattle.source_text.specs.Lists.{item_text, ending_text, listing};
 
+use answers::refusal::Refusal;
 use plain_text::numbers::Spaced;
 use source::body::Body;
 use source::head::Head;
@@ -29,6 +30,16 @@ fn push_item(out: &mut String, head: Head, body: &Body) -> fmt::Result
     Ok(())
 }
 
+// The line of an ending.
+fn push_ending(out: &mut String, ending: Refusal) -> fmt::Result
+    ensures { OnOk result (string_bytes out.new ≡ string_bytes out.old ++ ending_text ending.fault ending.place) }
+{
+    let number = ending.fault.number();
+    let place = ending.place;
+    writeln!(out, "ending number={number} place={place}")?;
+    Ok(())
+}
+
 /// Writes every item that the source still has behind the text, a line each, then the ending. The
 /// source is at its ending then.
 pub fn list<S: Marked>(out: &mut String, source: &mut S) -> fmt::Result
@@ -37,14 +48,13 @@ pub fn list<S: Marked>(out: &mut String, source: &mut S) -> fmt::Result
     ensures ending { S.Source.ending source.new ≡ S.Source.ending source.old }
 {
     let mut body = Body::new();
-    let ending = loop {
+    loop {
         match take_first(source, &mut body.literals, &mut body.numbers) {
             Ok(head) => push_item(out, head, &body)?,
-            Err(ending) => break ending,
+            Err(ending) => {
+                push_ending(out, ending)?;
+                return Ok(());
+            }
         }
-    };
-    let number = ending.fault.number();
-    let place = ending.place;
-    writeln!(out, "ending number={number} place={place}")?;
-    Ok(())
+    }
 }
