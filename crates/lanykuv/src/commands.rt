@@ -2,12 +2,11 @@
 use crate::files;
 use answers::refusal::Refusal;
 use formula::formula::Formula;
-use formula::span::Span;
 use formula_text::describe::{Description, Summary};
 use record_source::cursor::RecordSource;
 use source::marked::Marked;
 use source_text::list::list;
-use std::alloc::AllocError;
+use std::fmt;
 use std::io::Write;
 use std::process::ExitCode;
 use text_source::cursor::TextSource;
@@ -17,9 +16,10 @@ const USAGE: &str =
 
 /// The files of the current folder.
 pub(crate) fn job(rt: &HostRuntime) -> anyhow::Result<ExitCode> {
-    show(rt, "f.cnf", |formula| {
+    show(rt, "f.cnf", |text, formula| {
         let summary = Summary(formula);
-        format!(in rt.alloc(); "{summary}")
+        write!(text, "{summary}")?;
+        Ok(())
     })
 }
 
@@ -37,9 +37,10 @@ pub(crate) fn alone(rt: &HostRuntime, command: &str) -> anyhow::Result<ExitCode>
 /// A command that takes a file.
 pub(crate) fn with_file(rt: &HostRuntime, command: &str, file: &str) -> anyhow::Result<ExitCode> {
     match command {
-        "formula" => show(rt, file, |formula| {
+        "formula" => show(rt, file, |text, formula| {
             let description = Description(formula);
-            format!(in rt.alloc(); "{description}")
+            write!(text, "{description}")?;
+            Ok(())
         }),
         "items" => {
             let bytes = files::read(rt, file)?;
@@ -59,23 +60,24 @@ pub(crate) fn misused(rt: &HostRuntime) -> anyhow::Result<ExitCode> {
     Ok(ExitCode::FAILURE)
 }
 
-// Reads a formula and prints what `text_of` says of it.
-fn show<F: FnOnce(&Formula) -> Result<String, AllocError>>(
+// Reads a formula and prints what `describe` writes of it. Want of memory there is a `fmt::Error`, as in `list`.
+fn show<F: FnOnce(&mut String, &Formula) -> fmt::Result>(
     rt: &HostRuntime,
     path: &str,
-    text_of: F,
+    describe: F,
 ) -> anyhow::Result<ExitCode>
-    requires { F.IsAlwaysCallable text_of }
+    requires { F.IsAlwaysCallable describe }
 {
     let heap = rt.alloc();
     let bytes = files::read(rt, path)?;
-    let mut literals = vec![in heap; 0i32; files::most_literals(bytes.as_slice())]?;
-    let mut spans = vec![in heap; Span::default(); files::most_clauses(bytes.as_slice())]?;
+    let mut literals = files::literal_table(heap, bytes.as_slice())?;
+    let mut spans = files::span_table(heap, bytes.as_slice())?;
     let mut formula = Formula::over(literals.as_mut_slice(), spans.as_mut_slice());
     if let Err(refusal) = formula.read(bytes.as_slice()) {
         return refuse(rt, path, refusal);
     }
-    let text = text_of(&formula)?;
+    let mut text = String::new(heap);
+    describe(&mut text, &formula)?;
     rt.stdout().write_all(text.as_bytes())?;
     Ok(ExitCode::SUCCESS)
 }
