@@ -49,7 +49,7 @@ module _ (ls : List ℤ) (hs : List ℕ) (rs : List Row) (h : ℕ) where
       (λ k r n. last k (short k r) (row_names k (short k r) n))
 
 -- a place that is named is one of the list
-place_within : (h : ℕ) (xs : List Held) (t : ℕ) → place_named xs h ≡ Some t → t < length xs
+pub place_within : (h : ℕ) (xs : List Held) (t : ℕ) → place_named xs h ≡ Some t → t < length xs
 place_within h [] t e = cc
 place_within h (x ∷ xs) t e = step h x xs (place_named xs h) (place_within h xs) (names h x) refl t e
   where

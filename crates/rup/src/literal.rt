@@ -11,7 +11,7 @@ pub(crate) fn byte_of(literal: i32) -> usize
     ensures { result ≡ byte_of literal }
 {
     let v = literal.unsigned_abs() as usize;
-    if literal < 0 { 2 * v - 1 } else { 2 * v - 2 }
+    2 * v - 2 + usize::from(literal < 0)
 }
 
 // Whether some variable stands twice, in either sign.

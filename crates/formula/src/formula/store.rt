@@ -46,6 +46,7 @@ impl<'f> Formula<'f> {
         ensures limits { IfSome result (λ c. Ranged (variables_of self.now) c.now) }
     {
         let span = self.spans.get(number.checked_sub(1)?)?;
-        Some(span.of(self.literals.as_slice()))
+        // by index and not `of`: every span ends within the table, so that no bound is looked at
+        Some(&self.literals.as_slice()[span.at..span.at + span.len])
     }
 }
