@@ -1,5 +1,6 @@
 -- One token of a clause.
-use Rattle.std.proofs.Common.{◌≡◌, ℕ, zero, suc, Bool, false, cond, List, [], ◌∷◌, ◌++◌, ℤ, pos, negsuc, Some, None, Ok, Err, Option, Result, refl, ap, ◌∙◌}
+use Rattle.std.proofs.Common.{◌≡◌, ℕ, zero, suc, ◌<◌, Bool, false, cond, List, [], ◌∷◌, ◌++◌, length, ℤ, pos, negsuc, Some, None, Ok, Err, Option, Result, refl, ap, ◌∙◌, arith}
+use Rattle.std.proofs.lemmas.Bool.Decides.{nat_tests}
 use Rattle.answers.specs.declared.fault.Fault.{Fault}
 use Rattle.text.specs.Words.{Token}
 use Rattle.text.specs.Words.Token.{number}
@@ -19,3 +20,7 @@ pub clause_offends : (v : ℕ) (s : Bool) (ls : Clause) (z : ℤ) (ts : List Tok
 clause_offends v s ls z ts f h e =
     let on = clause_from v s (ls ++ z ∷ []) ts in
     ap (λ b. cond b (closed s ls ts) (unless (offence v s ls z) on)) h ∙ ap (λ o. unless o on) e
+
+-- a literal that does not offend is at most the 64th
+pub no_offence : (v : ℕ) (s : Bool) (ls : Clause) (z : ℤ) → offence v s ls z ≡ None → length ls < 64
+no_offence v s ls z e = grind (arith, nat_tests)

@@ -2,6 +2,7 @@ pub mod AllLaws
 pub mod ClauseSteps
 pub mod Elements
 pub mod FillSteps
+pub mod HeaderWords
 pub mod Limits
 pub mod LineRows
 pub mod Plain

@@ -96,7 +96,7 @@ pub none_left : (s : RecordSource) (fault : Fault) (place : ℕ) (stopped : Bool
 none_left s fault place stopped e q h = (ap (λ (x : Reading). x.items) q, h ∙ ap (λ (x : Reading). ended x.ending) (sym q))
 
 -- no item comes at the last record
-closing_none : (n a place rest : ℕ) → (closing n a place rest).items ≡ []
+pub closing_none : (n a place rest : ℕ) → (closing n a place rest).items ≡ []
 closing_none n a place rest =
     cond_both (eqb n a) _ (ends Record place false) (λ r. r.items ≡ [])
     (λ _. cond_both (eqb rest 0) (ends NoItem 0 false) (ends Record (place + 1) false) (λ r. r.items ≡ []) (λ _. refl) (λ _. refl))

@@ -1,24 +1,15 @@
 -- A word of other bytes is another word.
-use Rattle.std.proofs.Common.{◌≡◌, ℕ, Bool, true, false, eqb, List, [], ◌∷◌, MatchBool, sym, refl, ap, ◌∙◌, subst, inl, inr}
+use Rattle.std.proofs.Common.{◌≡◌, ℕ, Bool, true, false, List, MatchBool, sym, ap, ◌∙◌, subst, inl, inr}
 use denote.Bor.{Bor}
 use Rattle.std.specs.Bool.{then_some}
 use Rattle.std.specs.Cmp.Lexicographic.{told_text}
-use Rattle.std.proofs.lemmas.Bool.{eqb-true, and_parts, cases_Bool, true≢false}
+use Rattle.std.proofs.lemmas.Bool.{cases_Bool}
 use Rattle.text.specs.Words.Token.{word}
 use Rattle.text.specs.Fronts.{Goes}
 use Rattle.formula.specs.Reading.{same_bytes}
 use Rattle.formula.specs.Cursors.{begins, Keyword}
+use Rattle.formula.proofs.HeaderWords.{same_bytes_lem}
 use Rattle.formula.proofs.header.keyword.Goals as goal
-
-same_bytes_lem : (us ws : List ℕ) → same_bytes us ws ≡ true → ws ≡ us
-same_bytes_lem [] [] e = refl
-same_bytes_lem [] (c ∷ cs) e = absurd (true≢false (sym e))
-same_bytes_lem (c ∷ cs) [] e = absurd (true≢false (sym e))
-same_bytes_lem (c ∷ cs) (d ∷ ds) e =
-    let p = and_parts (eqb c d) (same_bytes cs ds) e in
-    let x = eqb-true c d p.0 in
-    let y = same_bytes_lem cs ds p.1 in
-    cc
 
 other_bytes : (us ws : List ℕ) → (ws ≡ us → ⊥) → same_bytes us ws ≡ false
 other_bytes us ws h = elim (cases_Bool (same_bytes us ws)) [ inl e ↦ absurd (h (same_bytes_lem us ws e)) | inr e ↦ e ]
