@@ -28,7 +28,7 @@ returns-else-first-eq48 c =
     let rest = c.in_ok-n.rest.now in
     let d : digit first ≡ true = sym c.is_ascii_digit.ensures.value ∙ c.if-not-is_ascii_digit.false in
     let s : first ≡ 48 → length behind ≤ length rest = elim c.else-first-eq48.branch [
-      | else-first-eq48-via-then-first-eq48+else-rest-behind w ↦ λ z. w.if-rest-behind.false
+      | else-first-eq48-via-then-first-eq48+else-rest-behind w ↦ λ z. omega (arith, w.if-rest-behind.false)
       | else-first-eq48-via-else-first-eq48 w ↦ λ z. absurd (w.if-first-eq48.false z)
     ] in
     subst (λ t. Natural t c.in_ok-n.n rest) (sym c.in_ok-first.ensures.cases.0) (nat_sized first behind c.in_ok-n.n rest d s (subst (λ (k : ℕ). Sized behind k c.in_ok-n.n rest) c.from.ensures c.in_ok-n.ensures))
